@@ -1,0 +1,5 @@
+pub mod Ring
+pub mod Integer
+pub mod Rational
+pub mod Order
+pub mod Bound

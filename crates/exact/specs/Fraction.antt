@@ -1,0 +1,50 @@
+-- Fractions: a whole number of either sign over one from 1 up. Two fractions are compared as whole numbers, multiplied out.
+use mathlib.Core.Path.{_≡_}
+use Prim.Native.Nat.{ℕ, suc, _*_, _<_}
+use native.Mathlib.Nat.{mul-pos, zero-lt-suc}
+use lib.IntN.{ℤ, pos, _+ℤ_, _*ℤ_, negℤ, natAbs}
+use lib.Signed.{_≤ℤ_}
+
+pub record Fraction : Type 0 where
+  pub num : ℤ
+  pub den : ℕ
+  pub ok : 0 < den
+
+-- the whole number z
+abbrev pub integer : ℤ → Fraction
+integer z = record { num = z; den = 1; ok = zero-lt-suc 0 }
+
+abbrev pub whole : ℕ → Fraction
+whole n = integer (pos n)
+
+-- 1 / (k + 1)
+abbrev pub part : ℕ → Fraction
+part k = record { num = pos 1; den = suc k; ok = zero-lt-suc k }
+
+abbrev pub plus : Fraction → Fraction → Fraction
+plus a b = record { num = a .num *ℤ pos (b .den) +ℤ b .num *ℤ pos (a .den); den = a .den * b .den; ok = mul-pos (a .ok) (b .ok) }
+
+abbrev pub times : Fraction → Fraction → Fraction
+times a b = record { num = a .num *ℤ b .num; den = a .den * b .den; ok = mul-pos (a .ok) (b .ok) }
+
+abbrev pub opposite : Fraction → Fraction
+opposite a = record { num = negℤ (a .num); den = a .den; ok = a .ok }
+
+abbrev pub absolute : Fraction → Fraction
+absolute a = record { num = pos (natAbs (a .num)); den = a .den; ok = a .ok }
+
+-- a - b, and its size: the distance of a and b
+abbrev pub difference : Fraction → Fraction → Fraction
+difference a b = plus a (opposite b)
+
+abbrev pub apart : Fraction → Fraction → Fraction
+apart a b = absolute (difference a b)
+
+-- a and b are the same number
+abbrev pub Same : Fraction → Fraction → Type 0
+Same a b = a .num *ℤ pos (b .den) ≡ b .num *ℤ pos (a .den)
+
+infix 50 _≼_
+-- a is at most b
+abbrev pub _≼_ : Fraction → Fraction → Type 0
+a ≼ b = (a .num *ℤ pos (b .den)) ≤ℤ (b .num *ℤ pos (a .den))
