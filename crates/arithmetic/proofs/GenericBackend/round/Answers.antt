@@ -1,0 +1,6 @@
+use lib.Ieee.{binary64}
+use Rattle.arithmetic.proofs.Away.{rounds-away}
+use Rattle.arithmetic.proofs.GenericBackend.round.Needs as need
+
+pub returns : need.returns
+returns c = record { value = c .round .ensures; law-kept = rw (c .round .ensures) (rounds-away binary64 (c .args .x)) }

@@ -1,0 +1,3 @@
+pub mod Signs
+pub mod Away
+pub mod Kept

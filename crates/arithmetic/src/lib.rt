@@ -1,0 +1,108 @@
+// An arithmetic: fused or two-step multiply-add and rounding to a whole number, with its law.
+ghost use mathlib.Core.Path.{_≡_};
+ghost use lib.Ieee.{binary32, binary64};
+ghost use Rattle.arithmetic.specs.Arithmetic.{Arithmetic, Lawful, MulAdd, Nearest, generic, fusing, within};
+
+// Four operations, each a fixed function of its arguments. None refuses.
+pub trait ExpfBackend {
+    ghost meaning: { Self → Arithmetic };
+
+    law lawful: { (b : Self) → Lawful (meaning b) };
+
+    fn fmaf(&self, x: f32, y: f32, z: f32) -> f32
+        ensures value { λ r. ⌜ r ≡ meaning (now (self .entry)) .fmaf x y z ⌝ }
+        ensures law_kept { λ r. ⌜ MulAdd binary32 60 x y z r ⌝ };
+
+    fn fma(&self, x: f64, y: f64, z: f64) -> f64
+        ensures value { λ r. ⌜ r ≡ meaning (now (self .entry)) .fma x y z ⌝ }
+        ensures law_kept { λ r. ⌜ MulAdd binary64 400 x y z r ⌝ };
+
+    fn roundf(&self, x: f32) -> f32
+        ensures value { λ r. ⌜ r ≡ meaning (now (self .entry)) .roundf x ⌝ }
+        ensures law_kept { λ r. ⌜ Nearest binary32 x r ⌝ };
+
+    fn round(&self, x: f64) -> f64
+        ensures value { λ r. ⌜ r ≡ meaning (now (self .entry)) .round x ⌝ }
+        ensures law_kept { λ r. ⌜ Nearest binary64 x r ⌝ };
+}
+
+// Two steps everywhere: the product is rounded, and then the sum.
+#[derive(Clone, Copy)]
+pub struct GenericExpfBackend {}
+
+pub impl ExpfBackend for GenericExpfBackend as GenericBackend {
+    ghost meaning = { λ _. generic };
+
+    fn fmaf(&self, x: f32, y: f32, z: f32) -> f32 {
+        x * y + z
+    }
+
+    fn fma(&self, x: f64, y: f64, z: f64) -> f64 {
+        x * y + z
+    }
+
+    fn roundf(&self, x: f32) -> f32 {
+        x.round()
+    }
+
+    fn round(&self, x: f64) -> f64 {
+        x.round()
+    }
+}
+
+// 2^-400 and 2^400, 2^-60 and 2^60
+const LOW_F64: f64 = 3.8725919148493183e-121;
+
+const HIGH_F64: f64 = 2.5822498780869086e120;
+
+const LOW_F32: f32 = 8.673617379884035e-19;
+
+const HIGH_F32: f32 = 1.152921504606847e18;
+
+// Whether x is zero or of magnitude 2^-400 to 2^400.
+fn within_f64(x: f64) -> bool
+    ensures { λ r. ⌜ r ≡ within 400 x ⌝ }
+{
+    let a = x.abs();
+    (a == 0.0) | ((LOW_F64 <= a) & (a <= HIGH_F64))
+}
+
+// Whether x is zero or of magnitude 2^-60 to 2^60.
+fn within_f32(x: f32) -> bool
+    ensures { λ r. ⌜ r ≡ within 60 x ⌝ }
+{
+    let a = x.abs();
+    (a == 0.0) | ((LOW_F32 <= a) & (a <= HIGH_F32))
+}
+
+// Rounds once inside the ranges of the law, and takes two steps outside them.
+#[derive(Clone, Copy)]
+pub struct FmaBackend {}
+
+pub impl ExpfBackend for FmaBackend as FusedBackend {
+    ghost meaning = { λ _. fusing };
+
+    fn fmaf(&self, x: f32, y: f32, z: f32) -> f32 {
+        if within_f32(x) && within_f32(y) && within_f32(z) {
+            x.mul_add(y, z)
+        } else {
+            x * y + z
+        }
+    }
+
+    fn fma(&self, x: f64, y: f64, z: f64) -> f64 {
+        if within_f64(x) && within_f64(y) && within_f64(z) {
+            x.mul_add(y, z)
+        } else {
+            x * y + z
+        }
+    }
+
+    fn roundf(&self, x: f32) -> f32 {
+        x.round()
+    }
+
+    fn round(&self, x: f64) -> f64 {
+        x.round()
+    }
+}
