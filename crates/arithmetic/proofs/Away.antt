@@ -3,7 +3,7 @@ use mathlib.Core.Path.{_≡_, refl, sym, ap, subst, _∙_}
 use mathlib.Core.Bool.{Bool, true, false}
 use mathlib.Core.Logic.{_⊎_, inl, inr}
 use Prim.Native.Nat.{ℕ, zero, suc, _+_, _-_, _*_, _/_, _%_, _^_, _≤_, _<_}
-use native.Mathlib.Nat.{div-lt-iff-lt-mul, div-add-mod, mod-lt, le-trans}
+use native.Mathlib.Nat.{div-lt-iff-lt-mul, div-add-mod, mod-lt, le-trans, zero-lt-suc}
 use native.Mathlib.Omega.{arith}
 use lib.Dec.{T, ltb→lt, lit≤}
 use lib.Pow.{pow-mono}
@@ -19,26 +19,9 @@ use Rattle.exact.specs.Fraction.{integer, Same}
 use Rattle.rounding.specs.Values.{signed, value}
 use Rattle.rounding.specs.Whole.{NearestAway}
 use Rattle.arithmetic.specs.Arithmetic.{RoundsAway, Nearest, small, minusZero, minusHalf}
-use Rattle.arithmetic.proofs.Signs.{dist, signed-mul, signed-size, gap-over}
-
--- a / d to the nearest whole number, halves up
-abbrev halves : ℕ → ℕ → ℕ
-halves a d = (2 * a + d) / (2 * d)
-
-twice-pos : (d : ℕ) → 0 < d → 0 < 2 * d
-twice-pos d p = omega arith
-
--- the remainder says how far it is
-split : (a d : ℕ) → 0 < d → (r : ℕ) × (2 * a + d ≡ 2 * (halves a d * d) + r) × (r < 2 * d)
-split a d p =
-    let e = div-add-mod (2 * a + d) (2 * d) in
-    ((2 * a + d) % (2 * d), regroup (2 * a + d) (2 * d) d (halves a d) ((2 * a + d) % (2 * d)) refl e, mod-lt (2 * a + d) (twice-pos d p))
-  where
-    regroup : (n u d h r : ℕ) → u ≡ 2 * d → u * h + r ≡ n → n ≡ 2 * (h * d) + r
-    regroup n u d h r q e = let k : u * h ≡ 2 * d * h = ap (λ (x : ℕ). x * h) q in omega arith
-
-near : (a d h r : ℕ) → 2 * a + d ≡ 2 * (h * d) + r → r < 2 * d → 2 * dist (a * 1) (h * d) ≤ d
-near a d h r e l = omega arith
+use Rattle.arithmetic.proofs.Signs.{dist, signed-size, gap-over}
+use Rattle.arithmetic.proofs.Unrounded.{value-over, value-finite}
+use Rattle.arithmetic.proofs.Whole.{halves, twice-pos, halves-split, halves-near}
 
 tie : (a d h r : ℕ) → 2 * a + d ≡ 2 * (h * d) + r → 2 * dist (a * 1) (h * d) ≡ d → r < 2 * d → 0 < d → a ≤ h * d
 tie a d h r e q l p = omega arith
@@ -48,10 +31,10 @@ nearest-away s m e =
     let a = m * up e in
     let d = down e in
     let h = halves a d in
-    let k = split a d (down-pos e) in
+    let k = halves-split a d (down-pos e) in
     let g = gap-over s a h d 1 in
     record {
-      near = let b = near a d h (k .0) (k .1) (k .2) in subst (λ (n : ℕ). (pos 2 *ℤ pos n *ℤ pos 1) ≤ℤ (pos 1 *ℤ pos (1 * (d * 1)))) (sym g) (omega (arith, ints, b));
+      near = let b = halves-near a d (down-pos e) in subst (λ (n : ℕ). (pos 2 *ℤ pos n *ℤ pos 1) ≤ℤ (pos 1 *ℤ pos (1 * (d * 1)))) (sym g) (omega (arith, ints, b));
       away = λ q. let b = tie a d h (k .0) (k .1) (omega (arith, ints, q, g)) (k .2) (down-pos e) in rw (signed-size s a, signed-size s h) (omega (arith, ints, b))
     }
 
@@ -67,18 +50,6 @@ away-is : (f : Format) (s : Bool) (m : ℕ) (e : ℤ) → roundAway f (fin s m e
 unfolding wholeBy
 away-is f false m e = refl
 away-is f true m e = refl
-
-value-finite : (r : Float) (s : Bool) (h : ℕ) → HasValue r s h 1 → T (finite r)
-unfolding finite
-value-finite nan s h v = absurd v
-value-finite (inf t) s h v = absurd v
-value-finite (fin t m e) s h v = tt
-
-value-same : (r : Float) (s : Bool) (h : ℕ) → HasValue r s h 1 → Same (value r) (integer (signed s h))
-value-same nan s h v = absurd v
-value-same (inf t) s h v = absurd v
-value-same (fin t m e) s h v =
-    signed-mul t (m * up e) 1 ∙ ap (signed t) (v .1) ∙ ap (λ (u : Bool). signed u (h * down e)) (v .0) ∙ sym (signed-mul s h (down e))
 
 zero-rounds : (f : Format) → round f true 0 1 ≡ minusZero
 unfolding round units odd size
@@ -105,9 +76,9 @@ rounds-away f (fin s m e) w t =
     let v = round-whole f s h (few f h l) in
     subst (λ (r : Float). RoundsAway f (fin s m e) r) (sym (away-is f s m e)) record {
       fit = round-fits f s h 1;
-      number = value-finite (round f s h 1) s h v;
+      number = value-finite (round f s h 1) s h 1 v;
       z = signed s h;
-      is = value-same (round f s h 1) s h v;
+      is = value-over (round f s h 1) s h 1 (zero-lt-suc 0) v;
       nearest = nearest-away s m e;
       minus-zero = to-minus-zero f s m e;
     }

@@ -1,7 +1,8 @@
 -- Fractions: a whole number of either sign over one from 1 up. Two fractions are compared as whole numbers, multiplied out.
 use mathlib.Core.Path.{_≡_}
-use Prim.Native.Nat.{ℕ, suc, _*_, _<_}
+use Prim.Native.Nat.{ℕ, suc, _*_, _^_, _<_}
 use native.Mathlib.Nat.{mul-pos, zero-lt-suc}
+use lib.Pow.{pow-pos}
 use lib.IntN.{ℤ, pos, _+ℤ_, _*ℤ_, negℤ, natAbs}
 use lib.Signed.{_≤ℤ_}
 
@@ -20,6 +21,10 @@ whole n = integer (pos n)
 -- 1 / (k + 1)
 abbrev pub part : ℕ → Fraction
 part k = record { num = pos 1; den = suc k; ok = zero-lt-suc k }
+
+-- z / 2 ^ j
+abbrev pub dyadic : ℤ → ℕ → Fraction
+dyadic z j = record { num = z; den = 2 ^ j; ok = pow-pos j }
 
 abbrev pub plus : Fraction → Fraction → Fraction
 plus a b = record { num = a .num *ℤ pos (b .den) +ℤ b .num *ℤ pos (a .den); den = a .den * b .den; ok = mul-pos (a .ok) (b .ok) }

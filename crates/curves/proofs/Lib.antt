@@ -1,0 +1,2 @@
+pub mod Coarse
+pub mod Reduction

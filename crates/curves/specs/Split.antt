@@ -1,0 +1,38 @@
+-- What is promised of a split x = k / 2 ^ j + lo.
+use mathlib.Core.Path.{_≡_}
+use Prim.Native.Nat.{ℕ, _+_, _^_, _≤_}
+use lib.Dec.{T}
+use lib.IntN.{ℤ, pos, negsuc, _+ℤ_}
+use lib.Ieee.{Float, binary32, fits}
+use Rattle.std.specs.Floats.{finite}
+use Rattle.exact.specs.Fraction.{whole, integer, dyadic, times, difference, absolute, Same, _≼_}
+use Rattle.rounding.specs.Values.{value}
+use Rattle.rounding.specs.Whole.{NearestAway}
+use Rattle.arithmetic.specs.Arithmetic.{Arithmetic, Lawful}
+use Rattle.curves.specs.Exp as Exp
+use Rattle.curves.specs.Exp.{ExpReaches, shifted, wholeRow, restRow}
+
+pub record Splits (j : ℕ) (x kf : Float) (k : ℤ) (lo : Float) : Type 0 where
+  -- k is the whole number nearest to 2 ^ j x, halves away from zero
+  pub nearest : NearestAway (times (whole (2 ^ j)) (value x)) k
+  -- kf is that number: its conversion to an integer loses nothing
+  pub whole-kf : T (finite kf)
+  pub kept : Same (value kf) (integer k)
+  -- lo is x - k / 2 ^ j, with no rounding
+  pub finite-lo : T (finite lo)
+  pub exact : Same (value lo) (difference (value x) (dyadic k j))
+  -- and at most half of 1 / 2 ^ j
+  pub small : absolute (value lo) ≼ dyadic (pos 1) (j + 1)
+
+-- the rows that k gives lie within the tables
+pub record InRows (k : ℤ) : Type 0 where
+  pub moved : pos (shifted k) ≡ k +ℤ pos 13312
+  pub whole-row : wholeRow k ≤ 193
+  pub rest-row : restRow k ≤ 127
+
+-- for every lawful arithmetic and every x that reaches the tables: the split of exp is exact, and the same under any other lawful arithmetic
+abbrev pub ExpSplits : Type 0
+ExpSplits =
+    (a : Arithmetic) → Lawful a → (x : Float) → T (fits binary32 x) → ExpReaches x
+    → Splits 7 x (Exp.kf a x) (Exp.k a x) (Exp.lo a x) × InRows (Exp.k a x)
+    × ((b : Arithmetic) → Lawful b → (Exp.k a x ≡ Exp.k b x) × (Exp.lo a x ≡ Exp.lo b x))
