@@ -1,2 +1,6 @@
 pub mod Coarse
 pub mod Reduction
+pub mod Sizes
+pub mod Natural
+pub mod Checked
+pub mod Shift

@@ -116,7 +116,7 @@ nearest-scaled f j b s m e i z h =
     (nearest-same (value (scaled f j s m e)) (ratio s (i .X * 2 ^ j) (2 ^ low f) (pow-pos (low f))) z
     (value-over (scaled f j s m e) s (i .X * 2 ^ j) (2 ^ low f) (pow-pos (low f)) (scaled-value f j b s m e i)) h)
 
-k-below : (f : Format) (j b : ℕ) (m : ℕ) (e : ℤ) (i : Input f j b m e) → halves (i .X * 2 ^ j) (2 ^ low f) ≤ b
+pub k-below : (f : Format) (j b : ℕ) (m : ℕ) (e : ℤ) (i : Input f j b m e) → halves (i .X * 2 ^ j) (2 ^ low f) ≤ b
 k-below f j b m e i =
     let l : halves (i .X * 2 ^ j) (2 ^ low f) < b + 1 = div-lt-iff-lt-mul (twice-pos (2 ^ low f) (pow-pos (low f))) .1 (top (i .X * 2 ^ j) b (2 ^ low f) (i .up-to)) in
     omega arith
@@ -124,7 +124,7 @@ k-below f j b m e i =
     top : (a b l : ℕ) → 2 * a < (2 * b + 1) * l → 2 * a + l < (b + 1) * (2 * l)
     top a b l h = omega arith
 
-scaled-small : (f : Format) (j b : ℕ) (s : Bool) (m : ℕ) (e : ℤ) (i : Input f j b m e) (kf : Float) → Nearest f (scaled f j s m e) kf → RoundsAway f (scaled f j s m e) kf
+pub scaled-small : (f : Format) (j b : ℕ) (s : Bool) (m : ℕ) (e : ℤ) (i : Input f j b m e) (kf : Float) → Nearest f (scaled f j s m e) kf → RoundsAway f (scaled f j s m e) kf
 scaled-small f j b s m e i kf law =
     law (mul-fits f (fin s m e) (fin false 1 (pos j)))
     (small-in (scaled f j s m e) s (i .X * 2 ^ j) (2 ^ low f) (pow-pos (low f)) (scaled-value f j b s m e i) (top (i .X * 2 ^ j) b (2 ^ low f) (i .up-to) (i .few)))
@@ -132,7 +132,7 @@ scaled-small f j b s m e i kf law =
     top : (a b l : ℕ) → 2 * a < (2 * b + 1) * l → b < 2 ^ 20 → a < 4194304 * l
     top a b l h k = let g : (2 * b + 1) * l ≤ 2097152 * l = mul-le-mul-right l (omega arith) in omega arith
 
-rounded : (f : Format) (j b : ℕ) (s : Bool) (m : ℕ) (e : ℤ) (i : Input f j b m e) (kf : Float) → RoundsAway f (scaled f j s m e) kf → Rounded f j s (i .X) kf
+pub rounded : (f : Format) (j b : ℕ) (s : Bool) (m : ℕ) (e : ℤ) (i : Input f j b m e) (kf : Float) → RoundsAway f (scaled f j s m e) kf → Rounded f j s (i .X) kf
 unfolding finite
 rounded f j b s m e i nan r = absurd (r .number)
 rounded f j b s m e i (inf t) r = absurd (r .number)
@@ -169,7 +169,7 @@ signed-like t s k (inr z) = ap (signed t) z ∙ zero-signs t s ∙ ap (signed s)
     zero-signs true true = refl
 
 -- the conversion to 32 bits loses nothing
-k-is : (f : Format) (j b : ℕ) (s : Bool) (m : ℕ) (e : ℤ) (i : Input f j b m e) (kf : Float) → Rounded f j s (i .X) kf → toSigned 31 kf ≡ signed s (halves (i .X * 2 ^ j) (2 ^ low f))
+pub k-is : (f : Format) (j b : ℕ) (s : Bool) (m : ℕ) (e : ℤ) (i : Input f j b m e) (kf : Float) → Rounded f j s (i .X) kf → toSigned 31 kf ≡ signed s (halves (i .X * 2 ^ j) (2 ^ low f))
 unfolding toSigned
 k-is f j b s m e i kf r =
     let K = halves (i .X * 2 ^ j) (2 ^ low f) in
