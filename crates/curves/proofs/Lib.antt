@@ -4,3 +4,5 @@ pub mod Sizes
 pub mod Natural
 pub mod Checked
 pub mod Shift
+pub mod Fields
+pub mod WholePower

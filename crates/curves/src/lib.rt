@@ -1,6 +1,10 @@
 // The exponential curves on f32, each under a given arithmetic.
+pub mod exp10f;
+pub mod exp2f;
 pub mod expf;
+pub mod expm1f;
 pub mod polyeval;
+mod power;
 mod tables;
 
 ghost use mathlib.Core.Path.{_≡_};

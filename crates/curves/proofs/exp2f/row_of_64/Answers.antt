@@ -1,0 +1,9 @@
+use Prim.Native.Nat.{_<_}
+use lib.Dec.{lit≤}
+use Rattle.curves.proofs.Fields.{row-is, row-lt}
+use Rattle.curves.proofs.exp2f.row_of_64.Needs as need
+
+pub returns : need.returns
+returns c =
+    let e = row-is 6 (c .args .k) (lit≤ tt) (c .fits .k) in
+    record { value = e; bound = rw e (row-lt 6 (c .args .k)) }
