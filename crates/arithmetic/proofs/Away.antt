@@ -35,7 +35,7 @@ nearest-away s m e =
     let g = gap-over s a h d 1 in
     record {
       near = let b = halves-near a d (down-pos e) in subst (λ (n : ℕ). (pos 2 *ℤ pos n *ℤ pos 1) ≤ℤ (pos 1 *ℤ pos (1 * (d * 1)))) (sym g) (omega (arith, ints, b));
-      away = λ q. let b = tie a d h (k .0) (k .1) (omega (arith, ints, q, g)) (k .2) (down-pos e) in rw (signed-size s a, signed-size s h) (omega (arith, ints, b))
+      away = λ q. let b = tie a d h (k .0) (k .1) (omega (arith, ints, q, g)) (k .2) (down-pos e) in rw (signed-size s a, signed-size s h) (omega (arith, ints, b));
     }
 
 -- below magnitude 2 ^ 22 the whole number is small

@@ -59,7 +59,7 @@ next-to f j K X room h some near =
     let k-is : K * 2 ^ (l - j) ≡ K * 2 ^ p * 2 ^ g = ap (λ (z : ℕ). K * z) (split ∙ mul-comm (2 ^ g) (2 ^ p)) ∙ sym (mul-assoc K (2 ^ p) (2 ^ g)) in
     let d-is : dist X (K * 2 ^ (l - j)) ≡ dist a (K * 2 ^ p) * 2 ^ g = ap₂ dist x-is k-is ∙ dist-mul a (K * 2 ^ p) (2 ^ g) in
     let whole : dist (X * 2 ^ j) (K * 2 ^ l) ≡ dist a (K * 2 ^ p) * 2 ^ g * 2 ^ j =
-        ap (λ (z : ℕ). dist (X * 2 ^ j) z) (ap (λ (z : ℕ). K * z) fine ∙ sym (mul-assoc K (2 ^ (l - j)) (2 ^ j))) ∙ dist-mul X (K * 2 ^ (l - j)) (2 ^ j) ∙ ap (λ (z : ℕ). z * 2 ^ j) d-is in
+    ap (λ (z : ℕ). dist (X * 2 ^ j) z) (ap (λ (z : ℕ). K * z) fine ∙ sym (mul-assoc K (2 ^ (l - j)) (2 ^ j))) ∙ dist-mul X (K * 2 ^ (l - j)) (2 ^ j) ∙ ap (λ (z : ℕ). z * 2 ^ j) d-is in
     let few : dist a (K * 2 ^ p) < 2 ^ p =
-        few-left (dist a (K * 2 ^ p)) (2 ^ g) (2 ^ p) (2 ^ j) (2 ^ l) (fine ∙ ap (λ (z : ℕ). z * 2 ^ j) split) (pow-pos g) (pow-pos j) (subst (λ (z : ℕ). 2 * z ≤ 2 ^ l) whole near) (pow-pos p) in
+    few-left (dist a (K * 2 ^ p)) (2 ^ g) (2 ^ p) (2 ^ j) (2 ^ l) (fine ∙ ap (λ (z : ℕ). z * 2 ^ j) split) (pow-pos g) (pow-pos j) (subst (λ (z : ℕ). 2 * z ≤ 2 ^ l) whole near) (pow-pos p) in
     subst (λ (z : ℕ). Holds f z) (sym d-is) (holds-small f (dist a (K * 2 ^ p)) g few (omega arith))

@@ -126,9 +126,9 @@ made q b h c g a w s m e f z =
     let t = rounded binary32 7 b s m e i (kf a x) r in
     let size = k-below binary32 7 b m e i in
     let one : OneOrTwo binary32 (kf a x) (step 6) x (lo a x) =
-        subst (λ (y : Float). OneOrTwo binary32 (kf a x) y x (lo a x)) step-is
-        (w .fmaf-law (kf a x) minus-128th x (r .fit) (subst (λ (y : Float). T (fits binary32 y)) (sym step-is) step-fits) f
-        (kf-within binary32 7 s (z .X) b (kf a x) 59 t size (le-trans (let l : b ≤ 2 ^ 20 = omega arith in l) (lit≤ tt))) (subst (λ (y : Float). T (within 60 y)) (sym step-is) step-within) (x-within q m e s g z)) in
+    subst (λ (y : Float). OneOrTwo binary32 (kf a x) y x (lo a x)) step-is
+    (w .fmaf-law (kf a x) minus-128th x (r .fit) (subst (λ (y : Float). T (fits binary32 y)) (sym step-is) step-fits) f
+    (kf-within binary32 7 s (z .X) b (kf a x) 59 t size (le-trans (let l : b ≤ 2 ^ 20 = omega arith in l) (lit≤ tt))) (subst (λ (y : Float). T (within 60 y)) (sym step-is) step-within) (x-within q m e s g z)) in
     let l = lo-is binary32 6 b s m e i (kf a x) (lo a x) t one in
     record { splits = splits binary32 7 b s m e i (kf a x) (lo a x) r l; k-value = k-is binary32 7 b s m e i (kf a x) t; k-size = size; lo-value = l }
 
@@ -192,6 +192,8 @@ exp-splits a w (inf false) f t = ⊎-elim (λ l. absurd (omega (arith, l))) (λ 
 exp-splits a w (inf true) f t = ⊎-elim (λ l. absurd (omega (arith, l))) (λ l. absurd (omega (arith, l .1))) (t .limits)
 exp-splits a w (fin s m e) f t =
     let z = exp-sized s m e f t in
-    let r = exp-made a w s m e f z in
-    (r .splits, subst InRows (sym (r .k-value)) (exp-rows s _ (r .k-size)),
-    λ b v. let q = exp-made b v s m e f z in (r .k-value ∙ sym (q .k-value), r .lo-value ∙ sym (q .lo-value)))
+    let r = exp-made a w s m e f z in (
+      r .splits,
+      subst InRows (sym (r .k-value)) (exp-rows s _ (r .k-size)),
+      λ b v. let q = exp-made b v s m e f z in (r .k-value ∙ sym (q .k-value), r .lo-value ∙ sym (q .lo-value)),
+    )

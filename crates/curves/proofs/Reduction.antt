@@ -139,7 +139,7 @@ rounded f j b s m e i (inf t) r = absurd (r .number)
 rounded f j b s m e i (fin t n d) r =
     let K = halves (i .X * 2 ^ j) (2 ^ low f) in
     let same : signed t (n * up d * 1) ≡ signed s (K * down d) =
-        sym (signed-mul t (n * up d) 1) ∙ r .is ∙ ap (λ (z : ℤ). z *ℤ pos (down d)) (nearest-scaled f j b s m e i (r .z) (r .nearest)) ∙ signed-mul s K (down d) in
+    sym (signed-mul t (n * up d) 1) ∙ r .is ∙ ap (λ (z : ℤ). z *ℤ pos (down d)) (nearest-scaled f j b s m e i (r .z) (r .nearest)) ∙ signed-mul s K (down d) in
     record {
       sign = t;
       m = n;

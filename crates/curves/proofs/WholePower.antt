@@ -56,10 +56,11 @@ moved : (k : ℤ) → negsuc 148 ≤ℤ k → k ≤ℤ pos 127 → (natAbs (k +�
 moved (pos n) l h = (omega (arith, ints, h), ap (λ (b : Bool). cond b (pos (n + 149 - 149)) (negsuc (149 - suc (n + 149)))) (is-true (leb 149 (n + 149)) (le→leb 149 (n + 149) (omega arith))) ∙ ap pos (omega arith))
 moved (negsuc n) l h =
     let b : n ≤ 148 = omega (arith, ints, l) in
-    let e : negsuc n +ℤ pos 149 ≡ pos (148 - n) = omega (arith, ints) in
-    (subst (λ (z : ℤ). natAbs z < 277) (sym e) (omega arith),
-    ap (λ (z : ℤ). minus (natAbs z) 149) e
-    ∙ ap (λ (v : Bool). cond v (pos (148 - n - 149)) (negsuc (149 - suc (148 - n)))) (is-false (leb 149 (148 - n)) (not-leb (148 - n) (omega arith))) ∙ ap negsuc (omega arith))
+    let e : negsuc n +ℤ pos 149 ≡ pos (148 - n) = omega (arith, ints) in (
+      subst (λ (z : ℤ). natAbs z < 277) (sym e) (omega arith),
+      ap (λ (z : ℤ). minus (natAbs z) 149) e
+          ∙ ap (λ (v : Bool). cond v (pos (148 - n - 149)) (negsuc (149 - suc (148 - n)))) (is-false (leb 149 (148 - n)) (not-leb (148 - n) (omega arith))) ∙ ap negsuc (omega arith),
+    )
   where
     not-leb : (m : ℕ) → m < 149 → T (not (leb 149 m))
     not-leb m h = go (leb 149 m) (leb→le 149 m)
