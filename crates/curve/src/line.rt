@@ -66,7 +66,12 @@ fn count_words(line: &str) -> usize {
 
 pub fn read_query(line: &str) -> Result<Query, Mistake<'_>> {
     let mut words = line.split_whitespace();
-    let (Some(first), Some(second), Some(third), None) = (words.next(), words.next(), words.next(), words.next()) else {
+    let (Some(first), Some(second), Some(third), None) = (
+        words.next(),
+        words.next(),
+        words.next(),
+        words.next(),
+    ) else {
         return Err(Mistake::Words(count_words(line)));
     };
     let Some(curve) = CurveName::read(first) else {
@@ -78,7 +83,11 @@ pub fn read_query(line: &str) -> Result<Query, Mistake<'_>> {
     let Some(x) = read_number(third) else {
         return Err(Mistake::UnknownNumber(third));
     };
-    Ok(Query { curve, arithmetic, x })
+    Ok(Query {
+        curve,
+        arithmetic,
+        x,
+    })
 }
 
 // The question on a line of bytes.

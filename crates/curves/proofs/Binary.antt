@@ -112,10 +112,10 @@ made b c a v s m e f w =
     let d = rounded binary64 6 b s m e i (kd a x) r in
     let size = k-below binary64 6 b m e i in
     let one : OneOrTwo binary64 (step 5) (kd a x) x (lo a x) =
-        subst (λ (y : Float). OneOrTwo binary64 y (kd a x) x (lo a x)) step-is
-        (v .fma-law minus-64th (kd a x) x (subst (λ (y : Float). T (fits binary64 y)) (sym step-is) step-fits) (r .fit) (fits-widens x f)
-        (subst (λ (y : Float). T (within 400 y)) (sym step-is) step-within)
-        (kf-within binary64 6 s (i .X) b (kd a x) 399 d size (le-trans (let l : b ≤ 2 ^ 20 = omega arith in l) (lit≤ tt))) (x-within b s m e c w)) in
+    subst (λ (y : Float). OneOrTwo binary64 y (kd a x) x (lo a x)) step-is
+    (v .fma-law minus-64th (kd a x) x (subst (λ (y : Float). T (fits binary64 y)) (sym step-is) step-fits) (r .fit) (fits-widens x f)
+    (subst (λ (y : Float). T (within 400 y)) (sym step-is) step-within)
+    (kf-within binary64 6 s (i .X) b (kd a x) 399 d size (le-trans (let l : b ≤ 2 ^ 20 = omega arith in l) (lit≤ tt))) (x-within b s m e c w)) in
     let l = lo-is-turned binary64 5 b s m e i (kd a x) (lo a x) d one in
     record { splits = splits binary64 6 b s m e i (kd a x) (lo a x) r l; k-value = k-is binary64 6 b s m e i (kd a x) d; k-size = size; lo-value = l }
 
@@ -161,6 +161,8 @@ exp2-splits a v (inf false) f t = ⊎-elim (λ l. absurd (omega (arith, l))) (λ
 exp2-splits a v (inf true) f t = ⊎-elim (λ l. absurd (omega (arith, l))) (λ l. absurd (omega (arith, l .1))) (t .limits)
 exp2-splits a v (fin s m e) f t =
     let w = exp2-wide s m e f t in
-    let r = exp2-made a v s m e f w in
-    (r .splits, subst (InPowers 64 149 128) (sym (r .k-value)) (powers-in s _ (r .k-size)),
-    λ b u. let q = exp2-made b u s m e f w in (r .k-value ∙ sym (q .k-value), r .lo-value ∙ sym (q .lo-value)))
+    let r = exp2-made a v s m e f w in (
+      r .splits,
+      subst (InPowers 64 149 128) (sym (r .k-value)) (powers-in s _ (r .k-size)),
+      λ b u. let q = exp2-made b u s m e f w in (r .k-value ∙ sym (q .k-value), r .lo-value ∙ sym (q .lo-value)),
+    )

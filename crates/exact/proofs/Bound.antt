@@ -1,5 +1,6 @@
 -- |x| ≤ d for rationals, as two orders; how bounds go through sums and products; whole numbers and 1 / (k + 1) among the rationals.
 use mathlib.Core.Path.{_≡_, refl, ap, _∙_, subst}
+use mathlib.Core.Bool.{Bool, true, false, not}
 use mathlib.Core.List.{[], _∷_}
 use Prim.Native.Nat.{ℕ, suc, _+_, _-_, _≤_}
 use native.Mathlib.Nat.{zero-lt-suc}
@@ -10,7 +11,7 @@ use std.Quotient.{cls}
 use Rattle.exact.proofs.Ring.{con, _⊕_, _⊖_, _⊗_, ⊝, norm}
 use Rattle.exact.proofs.Integer.{zring, x₀, x₁, x₂, x₃}
 use Rattle.exact.proofs.Rational.{ℚ, is, _+q_, _*q_, -q_, _-q_, ofℤ, qring, of-addq}
-use Rattle.exact.proofs.Order.{nn, nn-add, nn-mul, _≤q_, le-by, q-refl, q-trans, q-add, q-neg, q-mul}
+use Rattle.exact.proofs.Order.{nn, nn-add, nn-mul, nn-total, _≤q_, le-by, q-refl, q-trans, q-add, q-neg, q-mul}
 
 -- n
 unfoldable pub ofℕ : ℕ → ℚ
@@ -156,3 +157,19 @@ mul-one a = qring (x₀ ⊗ con (pos 1)) x₀ refl (a ∷ [])
 pub less-than-itself : (x : ℚ) → x +q ofℕ 1 ≤q x → ⊥
 unfolding norm nn _-q_ ofℕ ofℤ
 less-than-itself x h = subst (λ (y : ℚ). T (nn y)) (qring (x₀ ⊖ (x₀ ⊕ con (pos 1))) (con (negsuc 0)) refl (x ∷ [])) (h .le)
+
+-- ---- the absolute value
+abbrev pub pick : Bool → ℚ → ℚ
+pick true a = a
+pick false a = -q_ a
+
+unfoldable pub absq : ℚ → ℚ
+absq a = pick (nn a) a
+
+pub bound-abs : (a : ℚ) → Bound a (absq a)
+unfolding absq norm
+bound-abs a = go (nn a) (λ t. t) (nn-total a)
+  where
+    go : (b : Bool) → (T b → T (nn a)) → (T (not b) → T (nn (-q_ a))) → Bound a (pick b a)
+    go true f g = bound-self (f tt)
+    go false f g = subst (λ (x : ℚ). Bound x (-q_ a)) (qring (⊝ (⊝ x₀)) x₀ refl (a ∷ [])) (bound-neg (bound-self (g tt)))

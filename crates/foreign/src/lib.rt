@@ -59,10 +59,10 @@ mod tests {
     use arithmetic::GenericBackend;
     use arithmetic::GenericExpfBackend;
     use curves::Curve;
-    use curves::exp10f::Exp10;
-    use curves::exp10f::Exp10Curve;
     use curves::exp2f::Exp2;
     use curves::exp2f::Exp2Curve;
+    use curves::exp10f::Exp10;
+    use curves::exp10f::Exp10Curve;
     use curves::expf::Exp;
     use curves::expf::ExpCurve;
     use curves::expm1f::Expm1;
