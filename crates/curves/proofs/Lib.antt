@@ -4,6 +4,7 @@ pub mod Sizes
 pub mod Natural
 pub mod Binary
 pub mod Checked
+pub mod Rules
 pub mod Shift
 pub mod Fields
 pub mod WholePower

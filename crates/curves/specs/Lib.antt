@@ -4,5 +4,6 @@ pub mod Exp
 pub mod Exp2
 pub mod Exp10
 pub mod Expm1
+pub mod Entries
 pub mod Split
 pub mod Examples

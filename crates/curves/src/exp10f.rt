@@ -3,7 +3,8 @@ ghost use mathlib.Core.Path.{_≡_};
 ghost use Prim.Native.Nat.{_<_};
 ghost use lib.ListN.{getD};
 ghost use Rattle.curves.specs.Tables.{exp2Mid};
-ghost use Rattle.curves.specs.Steps.{rowOf, scaledRow};
+ghost use Rattle.curves.specs.Steps.{double, rowOf, scaledRow};
+ghost use Rattle.curves.specs.Entries.{MidEntry};
 ghost use Rattle.curves.specs.Exp10.{hi, lo, exp10NearOne, exp10Small, exp10Table, exp10Value};
 use crate::Curve;
 use crate::polyeval::polyeval7;
@@ -16,10 +17,11 @@ use std::num::f64_from_bits_with_nan;
 use std::num::nearest_f64_to_f32_with_nan;
 use std::num::saturating_f64_to_i32;
 
-// 2^(i / 32)
+// The bits of 2^(i / 32), within one unit.
 fn exp_2_mid(i: usize) -> u64
     requires { ⌜ i < 32 ⌝ }
-    ensures { λ r. ⌜ r ≡ getD exp2Mid i 0 ⌝ }
+    ensures value { λ r. ⌜ r ≡ getD exp2Mid i 0 ⌝ }
+    ensures near { λ r. ⌜ MidEntry i (double r) ⌝ }
 {
     EXP_2_MID[i]
 }

@@ -3,8 +3,9 @@ ghost use mathlib.Core.Path.{_≡_};
 ghost use Prim.Native.Nat.{_<_};
 ghost use lib.ListN.{getD};
 ghost use Rattle.curves.specs.Tables.{exp2fTable};
-ghost use Rattle.curves.specs.Steps.{rowOf, scaledRow, timesPower};
+ghost use Rattle.curves.specs.Steps.{double, rowOf, scaledRow};
 ghost use Rattle.curves.specs.Exp2.{exp2Small, exp2Table, exp2Value};
+ghost use Rattle.curves.specs.Entries.{Exp2fEntry};
 ghost use Rattle.curves.specs.Split.{Exp2Splits};
 use crate::Curve;
 use crate::polyeval::polyeval6;
@@ -19,10 +20,11 @@ use std::num::f64_from_bits_with_nan;
 use std::num::nearest_f64_to_f32_with_nan;
 use std::num::saturating_f64_to_i32;
 
-// 2^(i / 64)
+// The bits of 2^(i / 64), within one unit.
 fn exp2f_entry(i: usize) -> u64
     requires { ⌜ i < 64 ⌝ }
-    ensures { λ r. ⌜ r ≡ getD exp2fTable i 0 ⌝ }
+    ensures value { λ r. ⌜ r ≡ getD exp2fTable i 0 ⌝ }
+    ensures near { λ r. ⌜ Exp2fEntry i (double r) ⌝ }
 {
     EXP2F_TABLE[i]
 }

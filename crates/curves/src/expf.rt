@@ -4,6 +4,7 @@ ghost use Prim.Native.Nat.{_<_};
 ghost use Rattle.curves.specs.Tables.{expM1, expM2};
 ghost use Rattle.curves.specs.Steps.{row};
 ghost use Rattle.curves.specs.Exp.{k, wholeRow, restRow, expPoly, expTables, expValue, ExpReaches};
+ghost use Rattle.curves.specs.Entries.{M1Entry, M2Entry};
 ghost use Rattle.curves.specs.Split.{InRows, ExpSplits};
 use crate::Curve;
 use crate::polyeval::polyeval5;
@@ -14,18 +15,20 @@ use std::num::f32_to_f64_with_nan;
 use std::num::nearest_f64_to_f32_with_nan;
 use std::num::saturating_f32_to_i32;
 
-// e^(i - 104)
+// e^(i - 104), within one unit.
 fn exp_m1(i: usize) -> f64
     requires { ⌜ i < 207 ⌝ }
-    ensures { λ r. ⌜ r ≡ row expM1 i ⌝ }
+    ensures value { λ r. ⌜ r ≡ row expM1 i ⌝ }
+    ensures near { λ r. ⌜ M1Entry i r ⌝ }
 {
     f64::from_bits(EXP_M1[i])
 }
 
-// e^(i / 128)
+// e^(i / 128), within one unit.
 fn exp_m2(i: usize) -> f64
     requires { ⌜ i < 128 ⌝ }
-    ensures { λ r. ⌜ r ≡ row expM2 i ⌝ }
+    ensures value { λ r. ⌜ r ≡ row expM2 i ⌝ }
+    ensures near { λ r. ⌜ M2Entry i r ⌝ }
 {
     f64::from_bits(EXP_M2[i])
 }
