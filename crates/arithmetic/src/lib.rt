@@ -1,8 +1,9 @@
 // An arithmetic: fused or two-step multiply-add and rounding to a whole number, with its law.
 ghost use mathlib.Core.Path.{_≡_};
 ghost use lib.Ieee.{binary32, binary64};
-ghost use Rattle.arithmetic.specs.Arithmetic.{Arithmetic, Lawful, MulAdd, Nearest, TwoOperations, FusedInside, generic, fusing, fusedWithin, within};
+ghost use Rattle.arithmetic.specs.Arithmetic.{Arithmetic, Lawful, MulAdd, Nearest, TwoOperations, FusedInside, generic, fusing, fusedWithin, twoStep, within};
 ghost use Rattle.rounding.specs.Operations.{TiesToAway};
+ghost use Rattle.std.specs.Floats.{roundAway};
 
 // Four operations, each a fixed function of its arguments. None refuses.
 pub trait ExpfBackend {
@@ -27,6 +28,32 @@ pub trait ExpfBackend {
         ensures law_kept { λ r. ⌜ Nearest binary64 x r ⌝ };
 }
 
+// The product rounded, and then the sum.
+fn two_step_f32(x: f32, y: f32, z: f32) -> f32
+    ensures { λ r. ⌜ r ≡ twoStep binary32 x y z ⌝ }
+{
+    x * y + z
+}
+
+fn two_step_f64(a: f64, b: f64, c: f64) -> f64
+    ensures { λ r. ⌜ r ≡ twoStep binary64 a b c ⌝ }
+{
+    a * b + c
+}
+
+// The nearest whole number, halves away from zero.
+fn whole_f32(x: f32) -> f32
+    ensures { λ r. ⌜ r ≡ roundAway binary32 x ⌝ }
+{
+    f32::round(x)
+}
+
+fn whole_f64(x: f64) -> f64
+    ensures { λ r. ⌜ r ≡ roundAway binary64 x ⌝ }
+{
+    f64::round(x)
+}
+
 // Two steps everywhere: the product is rounded, and then the sum.
 #[derive(Clone, Copy)]
 pub struct GenericExpfBackend {}
@@ -39,7 +66,7 @@ pub impl ExpfBackend for GenericExpfBackend as GenericBackend {
         ensures law_kept { λ r. ⌜ MulAdd binary32 60 x y z r ⌝ }
         ensures ieee { λ r. ⌜ TwoOperations binary32 x y z r ⌝ }
     {
-        x * y + z
+        two_step_f32(x, y, z)
     }
 
     fn fma(&self, x: f64, y: f64, z: f64) -> f64
@@ -47,7 +74,7 @@ pub impl ExpfBackend for GenericExpfBackend as GenericBackend {
         ensures law_kept { λ r. ⌜ MulAdd binary64 400 x y z r ⌝ }
         ensures ieee { λ r. ⌜ TwoOperations binary64 x y z r ⌝ }
     {
-        x * y + z
+        two_step_f64(x, y, z)
     }
 
     fn roundf(&self, x: f32) -> f32
@@ -55,7 +82,7 @@ pub impl ExpfBackend for GenericExpfBackend as GenericBackend {
         ensures law_kept { λ r. ⌜ Nearest binary32 x r ⌝ }
         ensures ieee { λ r. ⌜ TiesToAway binary32 x r ⌝ }
     {
-        x.round()
+        whole_f32(x)
     }
 
     fn round(&self, x: f64) -> f64
@@ -63,7 +90,7 @@ pub impl ExpfBackend for GenericExpfBackend as GenericBackend {
         ensures law_kept { λ r. ⌜ Nearest binary64 x r ⌝ }
         ensures ieee { λ r. ⌜ TiesToAway binary64 x r ⌝ }
     {
-        x.round()
+        whole_f64(x)
     }
 }
 
@@ -97,9 +124,9 @@ fn fused_f32(x: f32, y: f32, z: f32) -> f32
     ensures { λ r. ⌜ r ≡ fusedWithin binary32 60 x y z ⌝ }
 {
     if within_f32(x) && within_f32(y) && within_f32(z) {
-        x.mul_add(y, z)
+        f32::mul_add(x, y, z)
     } else {
-        x * y + z
+        two_step_f32(x, y, z)
     }
 }
 
@@ -108,9 +135,9 @@ fn fused_f64(x: f64, y: f64, z: f64) -> f64
     ensures { λ r. ⌜ r ≡ fusedWithin binary64 400 x y z ⌝ }
 {
     if within_f64(x) && within_f64(y) && within_f64(z) {
-        x.mul_add(y, z)
+        f64::mul_add(x, y, z)
     } else {
-        x * y + z
+        two_step_f64(x, y, z)
     }
 }
 
@@ -142,7 +169,7 @@ pub impl ExpfBackend for FmaBackend as FusedBackend {
         ensures law_kept { λ r. ⌜ Nearest binary32 x r ⌝ }
         ensures ieee { λ r. ⌜ TiesToAway binary32 x r ⌝ }
     {
-        x.round()
+        whole_f32(x)
     }
 
     fn round(&self, x: f64) -> f64
@@ -150,6 +177,6 @@ pub impl ExpfBackend for FmaBackend as FusedBackend {
         ensures law_kept { λ r. ⌜ Nearest binary64 x r ⌝ }
         ensures ieee { λ r. ⌜ TiesToAway binary64 x r ⌝ }
     {
-        x.round()
+        whole_f64(x)
     }
 }
