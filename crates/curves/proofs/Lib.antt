@@ -8,3 +8,6 @@ pub mod Rules
 pub mod Shift
 pub mod Fields
 pub mod WholePower
+pub mod Law
+pub mod PowerRow
+pub mod Decimal

@@ -6,6 +6,7 @@ ghost use Rattle.curves.specs.Tables.{exp2Mid};
 ghost use Rattle.curves.specs.Steps.{double, rowOf, scaledRow};
 ghost use Rattle.curves.specs.Entries.{MidEntry};
 ghost use Rattle.curves.specs.Exp10.{hi, lo, exp10NearOne, exp10Small, exp10Table, exp10Value};
+ghost use Rattle.curves.specs.Split.{Exp10Splits};
 use crate::Curve;
 use crate::polyeval::polyeval7;
 use crate::polyeval::times_power;
@@ -152,4 +153,11 @@ pub impl Curve for Exp10 as Exp10Curve {
             exp10_table(arith, x)
         }
     }
+}
+
+// Every x that reaches the table is reduced by the nearest k, the first step exactly, and to a small lo, under every lawful arithmetic.
+pub fn exp10_splits() -> u8
+    ensures { λ _. ⌜ Exp10Splits ⌝ }
+{
+    0
 }
