@@ -1,3 +1,6 @@
 pub mod Law
 pub mod Inputs
 pub mod Rows
+pub mod Horner
+pub mod ExpPolynomial
+pub mod TableProduct

@@ -164,3 +164,26 @@ part-near i h n k =
     let b = getD expM2 i 0 in
     unit-rel (sig b) (ulp b) (2 ^ 1075) 52 (pow-pos 1075) _ (unit-part b)
     (exp-row (λ i. pos i) 128 (zero-lt-suc 127) 40 (2 ^ 1075) (pow-pos 1075) sig ulp expM2 part-test i (omega (arith, part-length)) (omega arith) n k)
+
+-- ---- the two as factors of e ^ x
+pub record Factor (t : Float) (arg : ℚ) (n₀ : ℕ) : Type 0 where
+  pub is-finite : T (finite t)
+  pub is-fit : T (fits binary64 t)
+  pub low : dy 1 160 ≤q val t
+  pub high : val t ≤q ofℕ (2 ^ 160)
+  pub near : (n : ℕ) → n₀ ≤ n → Rel (S arg n) (val t) (dy 1 52)
+
+factor : (t : Float) (q arg : ℚ) (n₀ : ℕ) → Row t q → ((n : ℕ) → n₀ ≤ n → Rel (S arg n) q (dy 1 52)) → Factor t arg n₀
+factor t q arg n₀ r s = record {
+  is-finite = r .is-finite;
+  is-fit = r .is-fit;
+  low = subst (λ (u : ℚ). dy 1 160 ≤q u) (sym (r .value)) (r .low);
+  high = subst (λ (u : ℚ). u ≤q ofℕ (2 ^ 160)) (sym (r .value)) (r .high);
+  near = λ n h. subst (λ (u : ℚ). Rel (S arg n) u (dy 1 52)) (sym (r .value)) (s n h);
+}
+
+pub whole-factor : (i : ℕ) → i < 207 → Factor (ofBits binary64 (getD expM1 i 0)) (whole-arg i) 420
+whole-factor i h = factor (ofBits binary64 (getD expM1 i 0)) (number (getD expM1 i 0)) (whole-arg i) 420 (whole-row i h) (whole-near i h)
+
+pub part-factor : (i : ℕ) → i < 128 → Factor (ofBits binary64 (getD expM2 i 0)) (part-arg i) 40
+part-factor i h = factor (ofBits binary64 (getD expM2 i 0)) (number (getD expM2 i 0)) (part-arg i) 40 (part-row i h) (part-near i h)
