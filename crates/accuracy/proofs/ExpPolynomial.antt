@@ -40,7 +40,7 @@ c₃ = double 0x3fc5_5556_6668_e5e7
 abbrev pub c₄ : Float
 c₄ = double 0x3fa5_5555_555e_f243
 
-in-range : Ranged binary64 400 c₀ × Ranged binary64 400 c₁ × Ranged binary64 400 c₂ × Ranged binary64 400 c₃ × Ranged binary64 400 c₄
+pub in-range : Ranged binary64 400 c₀ × Ranged binary64 400 c₁ × Ranged binary64 400 c₂ × Ranged binary64 400 c₃ × Ranged binary64 400 c₄
 unfolding ofBits fits
 in-range = ((tt, inr (lit≤ tt, lit≤ tt)), (tt, inr (lit≤ tt, lit≤ tt)), (tt, inr (lit≤ tt, lit≤ tt)), (tt, inr (lit≤ tt, lit≤ tt)), (tt, inr (lit≤ tt, lit≤ tt)))
 

@@ -4,3 +4,4 @@ pub mod Rows
 pub mod Horner
 pub mod ExpPolynomial
 pub mod TableProduct
+pub mod ExpSplit
