@@ -5,3 +5,4 @@ pub mod Horner
 pub mod ExpPolynomial
 pub mod TableProduct
 pub mod ExpSplit
+pub mod Narrowing
