@@ -6,3 +6,5 @@ pub mod ExpPolynomial
 pub mod TableProduct
 pub mod ExpSplit
 pub mod Narrowing
+pub mod ExpLimit
+pub mod ExpTables
