@@ -8,25 +8,28 @@ use native.Mathlib.Nat.{zero-lt-suc, le-trans, le-refl}
 use lib.Dec.{T, lit≤}
 use lib.Pow.{pow-pos}
 use lib.IntN.{pos}
-use lib.Ieee.{Float, binary32}
-use lib.Ieee.Scale.{finite}
-use Rattle.exact.specs.Exact.{exp, expm1, AtLeast}
+use lib.Ieee.{Float, inf}
+use std.Quotient.{cls}
+use Rattle.exact.specs.Fraction.{Fraction}
+use Rattle.exact.specs.Exact.{exp, expm1}
 use Rattle.exact.proofs.Ring.{con, _⊕_, _⊖_, _⊗_, ⊝, norm}
 use Rattle.exact.proofs.Integer.{x₀, x₁, x₂, x₃}
 use Rattle.exact.proofs.Rational.{ℚ, _+q_, _*q_, -q_, _-q_, ofℤ, qring}
 use Rattle.exact.proofs.Order.{nn, nn-add, nn-mul, nn-total, _≤q_, le-by, q-refl, q-trans, q-add, q-mul}
-use Rattle.exact.proofs.Bound.{ofℕ, inv, nn-ofℕ, ofℕ-mono, Bound, bound-more, bound-neg, bound-above, bound-below, mul-right, le-plus}
-use Rattle.exact.proofs.Compare.{fr, dy, nn-dy}
+use Rattle.exact.proofs.Bound.{ofℕ, inv, nn-ofℕ, ofℕ-mono, Bound, bound-more, bound-neg}
+use Rattle.exact.proofs.Compare.{fr}
 use Rattle.exact.proofs.Series.{term, S, R, from, later}
 use Rattle.exact.proofs.Compute.{run, test, held}
 use Rattle.exact.proofs.Vanish.{R-later}
 use Rattle.exact.proofs.Growth.{S-mono, R-mono}
 use Rattle.exact.proofs.Negative.{S-negative}
 use Rattle.rounding.specs.Values.{value}
-use Rattle.rounding.specs.Nearest.{limit}
-use Rattle.rounding.proofs.Value.{val}
-use Rattle.rounding.proofs.Limit.{below-limit-relative, above-limit-relative}
-use Rattle.accuracy.proofs.Narrowing.{top, below-top, not-at-least, is-at-least}
+use Rattle.accuracy.specs.Figures.{Right}
+use Rattle.accuracy.proofs.Outcome.{Under, Over, Placed, under, over, right-infinite}
+
+-- the limit
+abbrev top : ℕ
+top = 2 ^ 128 - 2 ^ 103
 
 -- 0x42b17217 and 0x42b17218
 abbrev pub last-under : ℚ
@@ -92,46 +95,48 @@ under-limit t b h n k = go (nn t) (λ z. z) (nn-total t)
         let e : S t n ≤q ofℕ 1 +q ofℕ 1 = q-trans (subst (λ (x : ℚ). S x n ≤q ofℕ 1 +q R (A +q A) n) (qring (⊝ (⊝ x₀)) x₀ refl (t ∷ [])) (s .hi)) (q-add (q-refl (ofℕ 1)) r) in
         q-trans (q-add e (q-refl (ofℕ (100 * 2 ^ 104)))) (negative-numbers .2)
 
--- ---- the exact values
-margins : (ofℕ top ≤q ofℕ top +q ofℕ (2 * 2 ^ 104)) × (ofℕ top +q ofℕ 1 ≤q ofℕ top +q ofℕ (2 * 2 ^ 104)) × (ofℕ top -q ofℕ (100 * 2 ^ 104) ≤q ofℕ below-top) × T (nn (ofℕ 1)) × (ofℕ top +q dy 1 40 *q ofℕ top +q ofℕ 1 ≤q ofℕ top +q ofℕ (2 * 2 ^ 104)) × T (nn (ofℤ (pos 1) -q dy 1 40)) × T (nn (ofℕ top))
+-- ---- where the exact values lie
+margins : (ofℕ top +q ofℕ 1 ≤q ofℕ top +q ofℕ (2 * 2 ^ 104)) × (ofℕ (top + 2 ^ 104) +q ofℕ 1 ≤q ofℕ top +q ofℕ (2 * 2 ^ 104)) × (ofℕ (top + 2 ^ 104) ≤q ofℕ top +q ofℕ (2 * 2 ^ 104)) × (ofℕ top -q ofℕ (100 * 2 ^ 104) ≤q ofℕ (top - 2 ^ 104)) × T (nn (ofℕ 1)) × (ofℕ top ≤q ofℕ top +q ofℕ (2 * 2 ^ 104))
 unfolding nn _-q_ _+q_ -q_ _*q_ ofℕ ofℤ
-margins = (record { le = tt }, record { le = tt }, record { le = tt }, tt, record { le = tt }, tt, tt)
+margins = (record { le = tt }, record { le = tt }, record { le = tt }, record { le = tt }, tt, record { le = tt })
 
-pub less-one : {a b : ℚ} → a +q ofℕ 1 ≤q b → a ≤q b -q ofℕ 1
+less-one : {a b : ℚ} → a +q ofℕ 1 ≤q b → a ≤q b -q ofℕ 1
 unfolding norm _-q_
 less-one {a} {b} p = le-by (b -q (a +q ofℕ 1)) (p .le) (qring (x₁ ⊖ x₂ ⊖ x₀) (x₁ ⊖ (x₀ ⊕ x₂)) refl (a ∷ b ∷ ofℕ 1 ∷ []))
 
--- a + c ≤ L gives a ≤ L - c
-pub leaves : (c : ℚ) {a : ℚ} (L : ℚ) → a +q c ≤q L → a ≤q L -q c
+-- a + c at most L leaves a at most L - c
+leaves : (c : ℚ) {a : ℚ} (L : ℚ) → a +q c ≤q L → a ≤q L -q c
 unfolding norm _-q_
 leaves c {a} L p = le-by (L -q (a +q c)) (p .le) (qring (x₂ ⊖ x₁ ⊖ x₀) (x₂ ⊖ (x₀ ⊕ x₁)) refl (a ∷ c ∷ L ∷ []))
 
-pub one-less : (a : ℚ) → a -q ofℕ 1 ≤q a
+one-less : (a : ℚ) → a -q ofℕ 1 ≤q a
 unfolding norm _-q_
-one-less a = le-by (ofℕ 1) (margins .3) (qring (x₀ ⊖ (x₀ ⊖ x₁)) x₁ refl (a ∷ ofℕ 1 ∷ []))
+one-less a = le-by (ofℕ 1) (margins .4) (qring (x₀ ⊖ (x₀ ⊖ x₁)) x₁ refl (a ∷ ofℕ 1 ∷ []))
 
-pub exp-at-least : (x : Float) → first-over ≤q val x → AtLeast exp (value x) (limit binary32)
-exp-at-least x h = is-at-least exp x (λ _. 250) (λ j n k. q-trans (margins .0) (over-limit (val x) h n k))
+-- at most the one, or at least the other
+abbrev pub Beside : ℚ → Type 0
+Beside t = (t ≤q last-under) ⊎ (first-over ≤q t)
 
-pub expm1-at-least : (x : Float) → first-over ≤q val x → AtLeast expm1 (value x) (limit binary32)
-expm1-at-least x h = is-at-least expm1 x (λ _. 250) (λ j n k. less-one (q-trans (margins .1) (over-limit (val x) h n k)))
+under-sum : (t : ℚ) → Bound t (ofℕ 106) → t ≤q last-under → (n : ℕ) → 700 ≤ n → S t n ≤q ofℕ (top - 2 ^ 104)
+under-sum t b h n k = q-trans (leaves (ofℕ (100 * 2 ^ 104)) (ofℕ top) (under-limit t b h n k)) (margins .3)
 
-pub exp-under : (x : Float) → Bound (val x) (ofℕ 106) → val x ≤q last-under → AtLeast exp (value x) (limit binary32) → ⊥
-exp-under x b h = not-at-least exp x (λ _. 700) (λ j n k. q-trans (leaves (ofℕ (100 * 2 ^ 104)) (ofℕ top) (under-limit (val x) b h n k)) (margins .2))
+pub exp-under : (x : Fraction) → Bound (cls x) (ofℕ 106) → cls x ≤q last-under → Under exp x
+exp-under x b h = record { start = λ _. 700; below = λ j n k. under-sum (cls x) b h n k }
 
-pub expm1-under : (x : Float) → Bound (val x) (ofℕ 106) → val x ≤q last-under → AtLeast expm1 (value x) (limit binary32) → ⊥
-expm1-under x b h = not-at-least expm1 x (λ _. 700) (λ j n k. q-trans (one-less (S (val x) n)) (q-trans (leaves (ofℕ (100 * 2 ^ 104)) (ofℕ top) (under-limit (val x) b h n k)) (margins .2)))
+pub expm1-under : (x : Fraction) → Bound (cls x) (ofℕ 106) → cls x ≤q last-under → Under expm1 x
+expm1-under x b h = record { start = λ _. 700; below = λ j n k. q-trans (one-less (S (cls x) n)) (under-sum (cls x) b h n k) }
 
--- ---- what is within 2 ^ -40 of a sum, relative to itself, is on its side of the limit
-too-near : (ofℤ (pos 1) -q dy 1 40) *q ofℕ top ≤q ofℕ top -q ofℕ (100 * 2 ^ 104) → ⊥
-unfolding nn _-q_ _+q_ -q_ _*q_ ofℕ ofℤ
-too-near h = h .le
+pub exp-placed : (x : Fraction) → Bound (cls x) (ofℕ 106) → Beside (cls x) → Placed exp x
+exp-placed x b (inl h) = under (exp-under x b h)
+exp-placed x b (inr h) = over record { start = λ _. 250; above = λ j n k. q-trans (margins .2) (over-limit (cls x) h n k) }
 
-pub number-under : (z v : ℚ) → Bound (z -q v) (dy 1 40 *q z) → v +q ofℕ (100 * 2 ^ 104) ≤q ofℕ top → ofℕ top ≤q z → ⊥
-number-under z v b h g = too-near (q-trans (below-limit-relative (dy 1 40) (margins .5) b g) (leaves (ofℕ (100 * 2 ^ 104)) (ofℕ top) h))
+pub expm1-placed : (x : Fraction) → Bound (cls x) (ofℕ 106) → Beside (cls x) → Placed expm1 x
+expm1-placed x b (inl h) = under (expm1-under x b h)
+expm1-placed x b (inr h) = over record { start = λ _. 250; above = λ j n k. less-one (q-trans (margins .1) (over-limit (cls x) h n k)) }
 
-pub number-over : (z v : ℚ) → Bound (z -q v) (dy 1 40 *q z) → ofℕ top +q dy 1 40 *q ofℕ top ≤q v → ofℕ top ≤q z
-number-over z v b h = above-limit-relative (dy 1 40) (nn-dy 1 40) b h
+-- ---- from there on the figure is infinite
+pub exp-infinite : (x y : Float) → y ≡ inf false → first-over ≤q cls (value x) → Right exp x y
+exp-infinite x y e h = right-infinite exp x y e (λ _. 250) (λ j n k. q-trans (margins .5) (over-limit (cls (value x)) h n k))
 
-pub above-sum : (t : ℚ) → first-over ≤q t → (n : ℕ) → 250 ≤ n → ofℕ top +q dy 1 40 *q ofℕ top +q ofℕ 1 ≤q S t n
-above-sum t h n k = q-trans (margins .4) (over-limit t h n k)
+pub expm1-infinite : (x y : Float) → y ≡ inf false → first-over ≤q cls (value x) → Right expm1 x y
+expm1-infinite x y e h = right-infinite expm1 x y e (λ _. 250) (λ j n k. less-one (q-trans (margins .0) (over-limit (cls (value x)) h n k)))

@@ -19,9 +19,8 @@ use Rattle.exact.proofs.Bound.{ofℕ, absq, nn-le, le-nn, Bound, bound-more, bo
 use Rattle.exact.proofs.Compare.{dy, nn-dy}
 use Rattle.exact.proofs.Relative.{Rel}
 use Rattle.exact.proofs.Series.{S}
-use Rattle.rounding.proofs.Value.{val}
-use Rattle.rounding.proofs.Distance.{abs-nn}
-use Rattle.rounding.proofs.Agreement.{Small-beside}
+use Rattle.rounding.specs.Values.{value}
+use Rattle.rounding.proofs.Value.{val, val-value}
 use Rattle.arithmetic.specs.Arithmetic.{Arithmetic, Lawful}
 use Rattle.curves.specs.Tables.{expM1, expM2}
 use Rattle.curves.specs.Steps.{row}
@@ -31,9 +30,10 @@ use Rattle.accuracy.proofs.Law.{fma-law}
 use Rattle.accuracy.proofs.Rows.{part-factor}
 use Rattle.accuracy.proofs.ExpPolynomial.{Stages, stages, poly-near}
 use Rattle.accuracy.proofs.TableProduct.{Product, row-times-polynomial, mul-rel, halves, rel-back}
-use Rattle.accuracy.proofs.ExpSplit.{Split, split, reaches-finite, reaches-size}
-use Rattle.accuracy.proofs.ExpLimit.{last-under, first-over, under-limit, exp-at-least, exp-under, number-under, number-over, above-sum}
-use Rattle.accuracy.proofs.Narrowing.{Near, Decided, under, over, Beyond, top, figure-right, figures-agree}
+use Rattle.accuracy.proofs.ExpSplit.{Split, split, reaches-size}
+use Rattle.accuracy.proofs.ExpLimit.{Beside, exp-placed}
+use Rattle.accuracy.proofs.Outcome as Outcome
+use Rattle.accuracy.proofs.Outcome.{close, Near, nearer, near-positive, Placed, right, agree}
 
 -- ---- the polynomial and the rows of an x that reaches them
 pub exp-product : (a : Arithmetic) → Lawful a → (x : Float) → T (fits binary32 x) → ExpReaches x → Product (mul binary64 (expPoly a x) (row expM1 (wholeRow (k a x)))) (row expM2 (restRow (k a x))) (val x)
@@ -47,13 +47,9 @@ exp-product a w x fx t =
 abbrev pub expWide : Arithmetic → Float → Float
 expWide a x = mul binary64 (mul binary64 (expPoly a x) (row expM1 (wholeRow (k a x)))) (row expM2 (restRow (k a x)))
 
-numbers : (dy 1 1022 ≤q dy 1 322) × (dy 1 400 ≤q dy 1 1 *q dy 1 322) × ((dy 231 53 +q dy 1 53) *q (ofℤ (pos 1) +q dy 1 52) ≤q dy 1 45) × (dy 1 45 ≤q dy 1 40) × (ofℕ 105 ≤q ofℕ 106) × T (nn (dy 231 53)) × (dy 1 45 *q (ofℕ (2 ^ 24) +q dy 1 1) ≤q dy 1 12)
+numbers : (dy 1 1022 ≤q dy 1 322) × (dy 1 400 ≤q dy 1 1 *q dy 1 322) × ((dy 231 53 +q dy 1 53) *q (ofℤ (pos 1) +q dy 1 52) ≤q dy 1 45) × (dy 1 45 ≤q dy 1 38) × (ofℕ 105 ≤q ofℕ 106) × T (nn (dy 231 53))
 unfolding nn _-q_ _+q_ -q_ _*q_ ofℕ ofℤ
-numbers = (record { le = tt }, record { le = tt }, record { le = tt }, record { le = tt }, record { le = tt }, tt, record { le = tt })
-
-small : Small-beside binary32 (dy 1 45) (dy 1 12)
-unfolding nn _-q_ _+q_ -q_ _*q_ ofℕ ofℤ
-small = record { nn-k = tt; half-k = record { le = tt }; little = record { le = tt }; less = λ h. h .le }
+numbers = (record { le = tt }, record { le = tt }, record { le = tt }, record { le = tt }, record { le = tt }, tt)
 
 -- what is known of it
 pub record Wide (a : Arithmetic) (x : Float) : Type 0 where
@@ -77,35 +73,19 @@ wide a w x fx t =
       off = λ n k. bound-turn (S (val x) n) (val (expWide a x)) (bound-more (rel-back (S (val x) n) (val (expWide a x)) q (dy 231 53) (numbers .5) (p .not-negative) (p .near n k) (m .1) .off) (mul-right (val (expWide a x)) (le-nn (q-trans (nn-le (nn-dy 1 400)) l)) (numbers .2)));
     }
 
--- within 2 ^ -45 of itself
-own-size : (a : Arithmetic) (x : Float) → Wide a x → absq (val (expWide a x)) ≡ val (expWide a x)
-own-size a x v = abs-nn (val (expWide a x)) (le-nn (q-trans (nn-le (nn-dy 1 400)) (v .above)))
+-- the inner statement: within 2 ^ -45 of its own size of e ^ x
+pub exp-near : (a : Arithmetic) (x : Float) → Wide a x → Near exp (value x) (dy 1 45) (expWide a x)
+exp-near a x v = near-positive exp (value x) (dy 1 45) (expWide a x) (v .is-finite) (le-nn (q-trans (nn-le (nn-dy 1 400)) (v .above))) (λ _. 700) (λ j n h. subst (λ (u : ℚ). Bound (val (expWide a x) -q S u n) (dy 1 45 *q val (expWide a x))) (val-value x) (v .off n h))
 
-pub exp-near : (a : Arithmetic) (x : Float) → Wide a x → Near exp (dy 1 45) x (expWide a x)
-exp-near a x v = record { is-finite = v .is-finite; start = λ _. 700; off = λ j n h. subst (λ (u : ℚ). Bound (val (expWide a x) -q S (val x) n) (dy 1 45 *q u)) (sym (own-size a x v)) (v .off n h) }
-
--- on which side of the limit x lies
-pub exp-decided : (a : Arithmetic) (x : Float) → Wide a x → Bound (val x) (ofℕ 106) → (val x ≤q last-under) ⊎ (first-over ≤q val x) → Decided exp x (expWide a x)
-exp-decided a x v b (inl h) =
-    under (λ g. number-under (val (expWide a x)) (S (val x) 700) (loose v) (under-limit (val x) b h 700 (le-refl 700)) (subst (λ (u : ℚ). ofℕ top ≤q u) (own-size a x v) g)) (exp-under x b h)
-  where
-    loose : Wide a x → Bound (val (expWide a x) -q S (val x) 700) (dy 1 40 *q val (expWide a x))
-    loose v = bound-more (v .off 700 (le-refl 700)) (mul-right (val (expWide a x)) (le-nn (q-trans (nn-le (nn-dy 1 400)) (v .above))) (numbers .3))
-exp-decided a x v b (inr h) =
-    over (number-over (val (expWide a x)) (S (val x) 700) (loose v) (q-trans (le-plus (ofℕ top +q dy 1 40 *q ofℕ top) (ofℕ 1) (nn-ofℕ 1)) (above-sum (val x) h 700 (lit≤ tt)))) (exp-at-least x h)
-  where
-    loose : Wide a x → Bound (val (expWide a x) -q S (val x) 700) (dy 1 40 *q val (expWide a x))
-    loose v = bound-more (v .off 700 (le-refl 700)) (mul-right (val (expWide a x)) (le-nn (q-trans (nn-le (nn-dy 1 400)) (v .above))) (numbers .3))
+narrowable : (a : Arithmetic) (x : Float) → Wide a x → Outcome.Wide exp (value x) 400 (expWide a x)
+narrowable a x v = record { above = v .above; near = nearer close (numbers .3) (exp-near a x v) }
 
 -- ---- the figure
-size : (x : Float) → T (fits binary32 x) → ExpReaches x → Bound (val x) (ofℕ 106)
-size x fx t = bound-more (reaches-size x fx t .1) (numbers .4)
+placed : (x : Float) → T (fits binary32 x) → ExpReaches x → Beside (val x) → Placed exp (value x)
+placed x fx t h = exp-placed (value x) (subst (λ (u : ℚ). Bound u (ofℕ 106)) (val-value x) (bound-more (reaches-size x fx t .1) (numbers .4))) (subst (λ (u : ℚ). Beside u) (val-value x) h)
 
-pub tables-right : (a : Arithmetic) → Lawful a → (x : Float) → T (fits binary32 x) → ExpReaches x → (val x ≤q last-under) ⊎ (first-over ≤q val x) → Right exp x (expTables a x)
-tables-right a w x fx t h = let v = wide a w x fx t in figure-right exp (dy 1 45) x (expWide a x) (nn-dy 1 45) (numbers .6) (exp-near a x v) (exp-decided a x v (size x fx t) h)
+pub tables-right : (a : Arithmetic) → Lawful a → (x : Float) → T (fits binary32 x) → ExpReaches x → Beside (val x) → Right exp x (expTables a x)
+tables-right a w x fx t h = right exp x (expWide a x) 400 (placed x fx t h) (narrowable a x (wide a w x fx t))
 
-pub tables-agree : (a b : Arithmetic) → Lawful a → Lawful b → (x : Float) → T (fits binary32 x) → ExpReaches x → (val x ≤q last-under) ⊎ (first-over ≤q val x) → Agree exp x (expTables a x) (expTables b x)
-tables-agree a b w u x fx t h =
-    let v = wide a w x fx t in
-    let q = wide b u x fx t in
-    figures-agree exp (dy 1 45) false x (expWide a x) (expWide b x) small (exp-near a x v) (exp-near b x q) (v .above) (q .above) (exp-decided a x v (size x fx t) h) (exp-decided b x q (size x fx t) h)
+pub tables-agree : (a b : Arithmetic) → Lawful a → Lawful b → (x : Float) → T (fits binary32 x) → ExpReaches x → Beside (val x) → Agree exp x (expTables a x) (expTables b x)
+tables-agree a b w u x fx t h = agree exp x (expWide a x) (expWide b x) 400 (placed x fx t h) (narrowable a x (wide a w x fx t)) (narrowable b x (wide b u x fx t))

@@ -5,6 +5,6 @@ pub mod Horner
 pub mod ExpPolynomial
 pub mod TableProduct
 pub mod ExpSplit
-pub mod Narrowing
+pub mod Outcome
 pub mod ExpLimit
 pub mod ExpTables
