@@ -7,15 +7,20 @@ use native.Mathlib.Nat.{eq-zero-or-pos}
 use native.Mathlib.Omega.{arith}
 use lib.Dec.{T, leb, eqb}
 use lib.Bits.{bitAnd}
-use lib.Ieee.{Float, nan, inf, fin, Format, binary32, fits, ofBits, ofFields, toBits}
+use lib.Pow.{pow-pos}
+use lib.IntN.{ℤ}
+use lib.Ieee.{Float, nan, inf, fin, Format, binary32, fits, isNan, ofBits, ofFields, toBits, up, down, size}
 use lib.Ieee.Bits.{ofBits-toBits, toBits-lt}
 use lib.Ieee.Scale.{finite}
 use Rattle.std.proofs.shelf.Bits.{and-mask}
 use Rattle.exact.proofs.Rational.{ℚ, -q_}
-use Rattle.exact.proofs.Order.{_≤q_, q-neg}
+use Rattle.exact.proofs.Order.{nn}
+use Rattle.exact.proofs.Bound.{Bound, bound-self, bound-neg}
+use Rattle.rounding.proofs.Fractions.{nn-frac}
 use Rattle.rounding.proofs.Value.{val}
-use Rattle.rounding.proofs.Patterns.{sized, sized-mono, pattern-positive, pattern-negative}
+use Rattle.rounding.proofs.Patterns.{sized, size-of, pattern-positive, pattern-negative}
 use Rattle.curves.specs.Steps.{pattern, magnitude}
+use Rattle.curves.proofs.Sizes.{patternOf, pattern-is}
 
 -- all ones in the exponent's field are no number
 top-field : (s : Bool) (t : ℕ) → T (finite (ofFields binary32 s 255 t)) → ⊥
@@ -64,3 +69,35 @@ signed-of x w t =
 
     split : (p : ℕ) → p < 2 ^ 32 → 2 ^ 31 ≤ p → p ≡ 2 ^ 31 + p % 2 ^ 31
     split p l h = omega arith
+
+-- ---- a finite f32 is no NaN, and is of the size that its pattern says
+pub numberless : (x : Float) → T (finite x) → T (not (isNan x))
+unfolding isNan
+numberless nan t = absurd t
+numberless (inf s) t = absurd t
+numberless (fin s m e) t = tt
+
+pub decide : (b : Bool) → T b ⊎ T (not b)
+decide true = inl tt
+decide false = inr tt
+
+pub sized-bound : (x : Float) → T (fits binary32 x) → T (finite x) → Bound (val x) (sized (magnitude x))
+sized-bound x w t = elim (signed-of x w t) [
+  | positive l m v ↦ subst (λ (u : ℚ). Bound u (sized (magnitude x))) (sym (v ∙ ap (λ (n : ℕ). sized n) (sym m))) (bound-self nn-size)
+  | negative l m v ↦ subst (λ (u : ℚ). Bound u (sized (magnitude x))) (sym v) (bound-neg (bound-self nn-size))
+]
+  where
+    nn-size : T (nn (sized (magnitude x)))
+    nn-size = nn-frac (size-of (magnitude x)) (2 ^ 149) (pow-pos 149)
+
+-- a zero of either sign
+pub zero-pattern : (s : Bool) (m : ℕ) (e : ℤ) → m ≡ 0 → magnitude (fin s m e) ≡ 0
+unfolding size
+zero-pattern s m e z = ap (λ (p : ℕ). bitAnd p 0x7fff_ffff) (pattern-is s m e 0 (ap (λ (n : ℕ). n * up e * 2 ^ 149) z ∙ nil (up e) (down e))) ∙ go s
+  where
+    nil : (u d : ℕ) → 0 * u * 2 ^ 149 ≡ 0 * d
+    nil u d = omega arith
+
+    go : (s : Bool) → bitAnd (cond s 2147483648 0 + patternOf 0) 0x7fff_ffff ≡ 0
+    go false = refl
+    go true = refl

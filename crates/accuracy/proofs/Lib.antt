@@ -8,3 +8,5 @@ pub mod ExpSplit
 pub mod Outcome
 pub mod ExpLimit
 pub mod ExpTables
+pub mod ExpBands
+pub mod Exp
