@@ -10,3 +10,4 @@ pub mod ExpLimit
 pub mod ExpTables
 pub mod ExpBands
 pub mod Exp
+pub mod Expm1Tables
