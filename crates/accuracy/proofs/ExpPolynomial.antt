@@ -6,7 +6,6 @@ use Prim.Native.Nat.{ℕ, _^_, _≤_}
 use lib.Dec.{T, lit≤}
 use lib.IntN.{pos}
 use lib.Ieee.{Float, binary32, binary64, fits, ofBits}
-use lib.Ieee.Fits.{fits-widens}
 use lib.Ieee.Scale.{finite}
 use Rattle.exact.proofs.Ring.{con, _⊕_, _⊖_, _⊗_, ⊝, norm}
 use Rattle.exact.proofs.Integer.{x₀, x₁, x₂, x₃, x₄}
@@ -19,11 +18,9 @@ use Rattle.rounding.specs.Ranges.{Ranged}
 use Rattle.rounding.proofs.Fractions.{dy}
 use Rattle.rounding.proofs.Value.{val}
 use Rattle.rounding.proofs.Horner.{Ball, ball-size}
-use Rattle.rounding.proofs.Multiple.{away-more, mult-away}
-use Rattle.rounding.proofs.Held.{finest}
-use Rattle.rounding.proofs.Range.{FmaLaw, ranged}
+use Rattle.rounding.proofs.Range.{FmaLaw}
 use Rattle.curves.specs.Steps.{double, poly5}
-use Rattle.accuracy.proofs.Horner.{Stage, Numbers, horner}
+use Rattle.accuracy.proofs.Horner.{f32-range, Stage, Numbers, horner}
 
 abbrev pub c₀ : Float
 c₀ = double 0x3ff0_0000_0000_0000
@@ -74,9 +71,8 @@ top = record { le = tt }
 abbrev pub poly : ℚ → ℚ
 poly t = t *q (t *q (t *q (t *q val c₄ +q val c₃) +q val c₂) +q val c₁) +q val c₀
 
--- a small f32 lies in the range of the law
 pub lo-range : (lo : Float) → T (finite lo) → T (fits binary32 lo) → Bound (val lo) (dy 1 8) → Ranged binary64 400 lo
-lo-range lo fl wl bl = ranged binary64 400 lo (fits-widens lo wl) fl (away-more {k = 149} 400 (lit≤ tt) (mult-away (finest binary32 lo fl wl))) (bound-more bl top)
+lo-range lo fl wl bl = f32-range lo (dy 1 8) fl wl bl top
 
 -- each stage of the scheme
 pub record Stages (fma : Float → Float → Float → Float) (lo : Float) : Type 0 where

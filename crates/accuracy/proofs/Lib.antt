@@ -11,3 +11,4 @@ pub mod ExpTables
 pub mod ExpBands
 pub mod Exp
 pub mod Expm1Tables
+pub mod Expm1Polynomial
