@@ -89,8 +89,8 @@ module _ (x : Float) (w : T (fits binary32 x)) (t : T (finite x)) where
       twice : (a : ℚ) → -q_ (-q_ a) ≡ a
       twice a = qring (⊝ (⊝ x₀)) x₀ refl (a ∷ [])
 
-  high : pattern x < 0x8000_0000 → 0x42b2_0000 ≤ pattern x → first-over ≤q val x
-  high l h = elim (signed-of x w t) [
+  pub over-top : pattern x < 0x8000_0000 → 0x42b2_0000 ≤ pattern x → first-over ≤q val x
+  over-top l h = elim (signed-of x w t) [
     | positive k m v ↦ subst (λ (u : ℚ). first-over ≤q u) (sym v) (q-trans (ends .2) (sized-mono 0x42b2_0000 (pattern x) h))
     | negative k m v ↦ absurd (omega arith)
   ]
@@ -105,7 +105,7 @@ module _ (x : Float) (w : T (fits binary32 x)) (t : T (finite x)) where
       go v (inl h) = let l = ltb→lt (pattern x) 0x42b1_7218 h in inl (subst (λ (u : ℚ). u ≤q last-under) (sym v) (q-trans (sized-mono (pattern x) 0x42b1_7217 (omega arith)) (ends .3)))
       go v (inr h) = inr (subst (λ (u : ℚ). first-over ≤q u) (sym v) (q-trans (ends .4) (sized-mono 0x42b1_7218 (pattern x) (nltb→le (pattern x) 0x42b1_7218 h))))
 
-infinity : single 0x7f80_0000 ≡ inf false
+pub infinity : single 0x7f80_0000 ≡ inf false
 unfolding ofBits
 infinity = refl
 
@@ -116,7 +116,7 @@ exp-right a w x fx t = go (band x (numberless x t))
     go : Band x → Right exp x (expValue a x)
     go (one h e) = subst (λ (y : Float). Right exp x y) (sym (e a)) (near-one x (small x fx t h))
     go (zero h e) = subst (λ (y : Float). Right exp x y) (sym (e a)) (lowest x (low x fx t h))
-    go (infinite l h e) = exp-infinite x (expValue a x) (e a ∙ infinity) (subst (λ (u : ℚ). first-over ≤q u) (val-value x) (high x fx t l h))
+    go (infinite l h e) = exp-infinite x (expValue a x) (e a ∙ infinity) (subst (λ (u : ℚ). first-over ≤q u) (val-value x) (over-top x fx t l h))
     go (tables r e) = subst (λ (y : Float). Right exp x y) (sym (e a)) (tables-right a w x fx r (beside x fx t))
 
 pub exp-agrees : CurveAgrees exp

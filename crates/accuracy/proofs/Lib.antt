@@ -12,3 +12,5 @@ pub mod ExpBands
 pub mod Exp
 pub mod Expm1Tables
 pub mod Expm1Polynomial
+pub mod Expm1Bands
+pub mod Expm1
