@@ -1,0 +1,16 @@
+pub mod Law
+pub mod Inputs
+pub mod Rows
+pub mod Horner
+pub mod ExpPolynomial
+pub mod TableProduct
+pub mod ExpSplit
+pub mod Outcome
+pub mod ExpLimit
+pub mod ExpTables
+pub mod ExpBands
+pub mod Exp
+pub mod Expm1Tables
+pub mod Expm1Polynomial
+pub mod Expm1Bands
+pub mod Expm1
