@@ -1,0 +1,32 @@
+// The four curves with all that is proved of them in their contracts: equal to the steps, right, exact where the rules say so, and the standard's special values.
+ghost use mathlib.Core.Path.{_≡_};
+ghost use lib.Dec.{T};
+ghost use lib.Ieee.Scale.{finite};
+ghost use Rattle.exact.specs.Exact.{exp, expm1};
+ghost use Rattle.curves.specs.Exp.{expValue};
+ghost use Rattle.curves.specs.Expm1.{expm1Value};
+ghost use Rattle.accuracy.specs.Figures.{Right, Exactly, Special};
+use arithmetic::ExpfBackend;
+use curves::Curve;
+use curves::expf::ExpCurve;
+use curves::expm1f::Expm1Curve;
+
+// e^x on f32.
+pub fn f_expf<B: ExpfBackend>(arith: &B, x: f32) -> f32
+    ensures steps { λ r. ⌜ r ≡ expValue (B·ExpfBackend .meaning (now (arith .entry))) x ⌝ }
+    ensures right { λ r. ⌜ (T (finite x) → Right exp x r) ⌝ }
+    ensures exact { λ r. ⌜ Exactly exp x r ⌝ }
+    ensures special { λ r. ⌜ Special exp x r ⌝ }
+{
+    ExpCurve::value(arith, x)
+}
+
+// e^x - 1 on f32.
+pub fn f_expm1f<B: ExpfBackend>(arith: &B, x: f32) -> f32
+    ensures steps { λ r. ⌜ r ≡ expm1Value (B·ExpfBackend .meaning (now (arith .entry))) x ⌝ }
+    ensures right { λ r. ⌜ (T (finite x) → Right expm1 x r) ⌝ }
+    ensures exact { λ r. ⌜ Exactly expm1 x r ⌝ }
+    ensures special { λ r. ⌜ Special expm1 x r ⌝ }
+{
+    Expm1Curve::value(arith, x)
+}
