@@ -4,3 +4,4 @@ pub mod Digits
 pub mod Whole
 pub mod Away
 pub mod Kept
+pub mod Standard

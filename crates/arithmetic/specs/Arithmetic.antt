@@ -7,9 +7,11 @@ use lib.Dec.{T}
 use lib.IntN.{ℤ, pos, negsuc}
 use lib.Ieee.{Float, Format, fin, binary32, binary64, minus, add, mul, lt, le, eq, fits}
 use Rattle.std.specs.Floats.{fused, roundAway, withSign, finite}
+use Rattle.std.specs.Orderings.{When}
 use Rattle.exact.specs.Fraction.{integer, Same}
 use Rattle.rounding.specs.Values.{value}
 use Rattle.rounding.specs.Whole.{NearestAway}
+use Rattle.rounding.specs.Operations.{Product, Sum, MultiplyAdd}
 
 -- an arithmetic: the functions that fmaf, fma, roundf and round stand for
 pub record Arithmetic : Type 0 where
@@ -64,6 +66,14 @@ pub record Lawful (a : Arithmetic) : Type 0 where
   pub fma-law : (x y z : Float) → MulAdd binary64 400 x y z (a .fma x y z)
   pub roundf-law : (x : Float) → Nearest binary32 x (a .roundf x)
   pub round-law : (x : Float) → Nearest binary64 x (a .round x)
+
+-- r is IEEE 754-2019's sum of z and the standard's product of x and y
+abbrev pub TwoOperations : Format → Float → Float → Float → Float → Type 0
+TwoOperations f x y z r = (p : Float) × Product f x y p × Sum f p z r
+
+-- r is the standard's fusedMultiplyAdd where all three are in the range n, and two operations elsewhere
+abbrev pub FusedInside : Format → ℕ → Float → Float → Float → Float → Type 0
+FusedInside f n x y z r = When (within n x && (within n y && within n z)) (MultiplyAdd f x y z r) (TwoOperations f x y z r)
 
 -- two steps everywhere
 abbrev pub generic : Arithmetic

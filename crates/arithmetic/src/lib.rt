@@ -1,7 +1,8 @@
 // An arithmetic: fused or two-step multiply-add and rounding to a whole number, with its law.
 ghost use mathlib.Core.Path.{_≡_};
 ghost use lib.Ieee.{binary32, binary64};
-ghost use Rattle.arithmetic.specs.Arithmetic.{Arithmetic, Lawful, MulAdd, Nearest, generic, fusing, within};
+ghost use Rattle.arithmetic.specs.Arithmetic.{Arithmetic, Lawful, MulAdd, Nearest, TwoOperations, FusedInside, generic, fusing, fusedWithin, within};
+ghost use Rattle.rounding.specs.Operations.{TiesToAway};
 
 // Four operations, each a fixed function of its arguments. None refuses.
 pub trait ExpfBackend {
@@ -33,19 +34,35 @@ pub struct GenericExpfBackend {}
 pub impl ExpfBackend for GenericExpfBackend as GenericBackend {
     ghost meaning = { λ _. generic };
 
-    fn fmaf(&self, x: f32, y: f32, z: f32) -> f32 {
+    fn fmaf(&self, x: f32, y: f32, z: f32) -> f32
+        ensures value { λ r. ⌜ r ≡ generic .fmaf x y z ⌝ }
+        ensures law_kept { λ r. ⌜ MulAdd binary32 60 x y z r ⌝ }
+        ensures ieee { λ r. ⌜ TwoOperations binary32 x y z r ⌝ }
+    {
         x * y + z
     }
 
-    fn fma(&self, x: f64, y: f64, z: f64) -> f64 {
+    fn fma(&self, x: f64, y: f64, z: f64) -> f64
+        ensures value { λ r. ⌜ r ≡ generic .fma x y z ⌝ }
+        ensures law_kept { λ r. ⌜ MulAdd binary64 400 x y z r ⌝ }
+        ensures ieee { λ r. ⌜ TwoOperations binary64 x y z r ⌝ }
+    {
         x * y + z
     }
 
-    fn roundf(&self, x: f32) -> f32 {
+    fn roundf(&self, x: f32) -> f32
+        ensures value { λ r. ⌜ r ≡ generic .roundf x ⌝ }
+        ensures law_kept { λ r. ⌜ Nearest binary32 x r ⌝ }
+        ensures ieee { λ r. ⌜ TiesToAway binary32 x r ⌝ }
+    {
         x.round()
     }
 
-    fn round(&self, x: f64) -> f64 {
+    fn round(&self, x: f64) -> f64
+        ensures value { λ r. ⌜ r ≡ generic .round x ⌝ }
+        ensures law_kept { λ r. ⌜ Nearest binary64 x r ⌝ }
+        ensures ieee { λ r. ⌜ TiesToAway binary64 x r ⌝ }
+    {
         x.round()
     }
 }
@@ -75,6 +92,28 @@ fn within_f32(x: f32) -> bool
     (a == 0.0) | ((LOW_F32 <= a) & (a <= HIGH_F32))
 }
 
+// Rounded once where all three are in range, and two steps elsewhere.
+fn fused_f32(x: f32, y: f32, z: f32) -> f32
+    ensures { λ r. ⌜ r ≡ fusedWithin binary32 60 x y z ⌝ }
+{
+    if within_f32(x) && within_f32(y) && within_f32(z) {
+        x.mul_add(y, z)
+    } else {
+        x * y + z
+    }
+}
+
+// Rounded once where all three are in range, and two steps elsewhere.
+fn fused_f64(x: f64, y: f64, z: f64) -> f64
+    ensures { λ r. ⌜ r ≡ fusedWithin binary64 400 x y z ⌝ }
+{
+    if within_f64(x) && within_f64(y) && within_f64(z) {
+        x.mul_add(y, z)
+    } else {
+        x * y + z
+    }
+}
+
 // Rounds once inside the ranges of the law, and takes two steps outside them.
 #[derive(Clone, Copy)]
 pub struct FmaBackend {}
@@ -82,27 +121,35 @@ pub struct FmaBackend {}
 pub impl ExpfBackend for FmaBackend as FusedBackend {
     ghost meaning = { λ _. fusing };
 
-    fn fmaf(&self, x: f32, y: f32, z: f32) -> f32 {
-        if within_f32(x) && within_f32(y) && within_f32(z) {
-            x.mul_add(y, z)
-        } else {
-            x * y + z
-        }
+    fn fmaf(&self, x: f32, y: f32, z: f32) -> f32
+        ensures value { λ r. ⌜ r ≡ fusing .fmaf x y z ⌝ }
+        ensures law_kept { λ r. ⌜ MulAdd binary32 60 x y z r ⌝ }
+        ensures ieee { λ r. ⌜ FusedInside binary32 60 x y z r ⌝ }
+    {
+        fused_f32(x, y, z)
     }
 
-    fn fma(&self, x: f64, y: f64, z: f64) -> f64 {
-        if within_f64(x) && within_f64(y) && within_f64(z) {
-            x.mul_add(y, z)
-        } else {
-            x * y + z
-        }
+    fn fma(&self, x: f64, y: f64, z: f64) -> f64
+        ensures value { λ r. ⌜ r ≡ fusing .fma x y z ⌝ }
+        ensures law_kept { λ r. ⌜ MulAdd binary64 400 x y z r ⌝ }
+        ensures ieee { λ r. ⌜ FusedInside binary64 400 x y z r ⌝ }
+    {
+        fused_f64(x, y, z)
     }
 
-    fn roundf(&self, x: f32) -> f32 {
+    fn roundf(&self, x: f32) -> f32
+        ensures value { λ r. ⌜ r ≡ fusing .roundf x ⌝ }
+        ensures law_kept { λ r. ⌜ Nearest binary32 x r ⌝ }
+        ensures ieee { λ r. ⌜ TiesToAway binary32 x r ⌝ }
+    {
         x.round()
     }
 
-    fn round(&self, x: f64) -> f64 {
+    fn round(&self, x: f64) -> f64
+        ensures value { λ r. ⌜ r ≡ fusing .round x ⌝ }
+        ensures law_kept { λ r. ⌜ Nearest binary64 x r ⌝ }
+        ensures ieee { λ r. ⌜ TiesToAway binary64 x r ⌝ }
+    {
         x.round()
     }
 }

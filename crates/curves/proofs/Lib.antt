@@ -2,6 +2,7 @@ pub mod Coarse
 pub mod Reduction
 pub mod Sizes
 pub mod Natural
+pub mod Binary
 pub mod Checked
 pub mod Shift
 pub mod Fields

@@ -1,16 +1,20 @@
 -- What is promised of a split x = k / 2 ^ j + lo.
 use mathlib.Core.Path.{_≡_}
-use Prim.Native.Nat.{ℕ, _+_, _^_, _≤_}
+use Prim.Native.Nat.{ℕ, _+_, _^_, _<_, _≤_}
 use lib.Dec.{T}
-use lib.IntN.{ℤ, pos, negsuc, _+ℤ_}
+use lib.IntN.{ℤ, pos, negℤ, _+ℤ_}
+use lib.Signed.{_≤ℤ_, shrZ}
 use lib.Ieee.{Float, binary32, fits}
 use Rattle.std.specs.Floats.{finite}
 use Rattle.exact.specs.Fraction.{whole, integer, dyadic, times, difference, absolute, Same, _≼_}
 use Rattle.rounding.specs.Values.{value}
 use Rattle.rounding.specs.Whole.{NearestAway}
 use Rattle.arithmetic.specs.Arithmetic.{Arithmetic, Lawful}
+use Rattle.curves.specs.Steps.{rowOf}
 use Rattle.curves.specs.Exp as Exp
+use Rattle.curves.specs.Exp2 as Exp2
 use Rattle.curves.specs.Exp.{ExpReaches, shifted, wholeRow, restRow}
+use Rattle.curves.specs.Exp2.{Exp2Reaches}
 
 pub record Splits (j : ℕ) (x kf : Float) (k : ℤ) (lo : Float) : Type 0 where
   -- k is the whole number nearest to 2 ^ j x, halves away from zero
@@ -36,3 +40,16 @@ ExpSplits =
     (a : Arithmetic) → Lawful a → (x : Float) → T (fits binary32 x) → ExpReaches x
     → Splits 7 x (Exp.kf a x) (Exp.k a x) (Exp.lo a x) × InRows (Exp.k a x)
     × ((b : Arithmetic) → Lawful b → (Exp.k a x ≡ Exp.k b x) × (Exp.lo a x ≡ Exp.lo b x))
+
+-- k among n rows: the row is from 0, and the whole power of two lies from -least to most
+pub record InPowers (n least most : ℕ) (k : ℤ) : Type 0 where
+  pub row : rowOf n k < n
+  pub low : negℤ (pos least) ≤ℤ shrZ k n
+  pub high : shrZ k n ≤ℤ pos most
+
+-- for every lawful arithmetic and every x that reaches the table: the split of exp2 is exact, and the same under any other lawful arithmetic
+abbrev pub Exp2Splits : Type 0
+Exp2Splits =
+    (a : Arithmetic) → Lawful a → (x : Float) → T (fits binary32 x) → Exp2Reaches x
+    → Splits 6 x (Exp2.kd a x) (Exp2.k a x) (Exp2.lo a x) × InPowers 64 149 128 (Exp2.k a x)
+    × ((b : Arithmetic) → Lawful b → (Exp2.k a x ≡ Exp2.k b x) × (Exp2.lo a x ≡ Exp2.lo b x))

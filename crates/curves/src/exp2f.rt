@@ -5,6 +5,7 @@ ghost use lib.ListN.{getD};
 ghost use Rattle.curves.specs.Tables.{exp2fTable};
 ghost use Rattle.curves.specs.Steps.{rowOf, scaledRow, timesPower};
 ghost use Rattle.curves.specs.Exp2.{exp2Small, exp2Table, exp2Value};
+ghost use Rattle.curves.specs.Split.{Exp2Splits};
 use crate::Curve;
 use crate::polyeval::polyeval6;
 use crate::polyeval::times_power;
@@ -126,4 +127,11 @@ pub impl Curve for Exp2 as Exp2Curve {
             exp2_table(arith, x)
         }
     }
+}
+
+// Every x that reaches the table is split exactly, and alike, under every lawful arithmetic.
+pub fn exp2_splits() -> u8
+    ensures { λ _. ⌜ Exp2Splits ⌝ }
+{
+    0
 }

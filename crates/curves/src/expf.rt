@@ -5,7 +5,6 @@ ghost use Rattle.curves.specs.Tables.{expM1, expM2};
 ghost use Rattle.curves.specs.Steps.{row};
 ghost use Rattle.curves.specs.Exp.{k, wholeRow, restRow, expPoly, expTables, expValue, ExpReaches};
 ghost use Rattle.curves.specs.Split.{InRows, ExpSplits};
-ghost use Rattle.curves.specs.Examples.{ExpExamples};
 use crate::Curve;
 use crate::polyeval::polyeval5;
 use crate::tables::EXP_M1;
@@ -114,13 +113,6 @@ pub impl Curve for Exp as ExpCurve {
 // Every x that reaches the tables is split exactly, and alike, under every lawful arithmetic.
 pub fn exp_splits() -> u8
     ensures { λ _. ⌜ ExpSplits ⌝ }
-{
-    0
-}
-
-// Values and splits of exp that follow from the definitions alone.
-pub fn exp_examples() -> u8
-    ensures { λ _. ⌜ ExpExamples ⌝ }
 {
     0
 }

@@ -10,6 +10,7 @@ mod tables;
 ghost use mathlib.Core.Path.{_≡_};
 ghost use lib.Ieee.{Float};
 ghost use Rattle.arithmetic.specs.Arithmetic.{Arithmetic};
+ghost use Rattle.curves.specs.Examples.{Examples};
 use arithmetic::ExpfBackend;
 
 // A curve, by its limit patterns and by what its value is under an arithmetic.
@@ -27,4 +28,11 @@ pub trait Curve {
 
     fn value<B: ExpfBackend>(arith: &B, x: f32) -> f32
         ensures { λ r. ⌜ r ≡ curve (B·ExpfBackend .meaning (now (arith .entry))) x ⌝ };
+}
+
+// Values and splits that follow from the definitions alone, under both of our arithmetics.
+pub fn examples_hold() -> u8
+    ensures { λ _. ⌜ Examples ⌝ }
+{
+    0
 }

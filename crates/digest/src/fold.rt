@@ -3,7 +3,7 @@ ghost use mathlib.Core.Path.{_≡_};
 ghost use Prim.Native.Nat.{_+_, _*_, _/_, _^_, _<_};
 ghost use Rattle.std.specs.Options.{Cases as BySome};
 ghost use Rattle.export.specs.Answers.{answer};
-ghost use Rattle.digest.specs.Names.{curveOf, arithmeticOf};
+ghost use Rattle.query.specs.Meaning.{curveOf, arithmeticOf};
 ghost use Rattle.digest.specs.Digest.{mixed, joined, block, whole};
 use crate::names::Pair;
 

@@ -6,8 +6,8 @@ mod request;
 use fold::Every;
 use fold::block_digest;
 use fold::whole_digest;
-use names::ArithmeticName;
-use names::CurveName;
+use names::ARITHMETICS;
+use names::CURVES;
 use names::Pair;
 use names::PairDisplay;
 use request::Blocks;
@@ -32,8 +32,8 @@ fn print_whole(rt: &LibcRuntime, pair: Pair, every: Every) -> io::Result<()> {
 }
 
 fn print_sample(rt: &LibcRuntime, every: Every) -> io::Result<()> {
-    for arithmetic in ArithmeticName::ALL {
-        for curve in CurveName::ALL {
+    for arithmetic in ARITHMETICS {
+        for curve in CURVES {
             print_whole(rt, Pair { curve, arithmetic }, every)?;
         }
     }

@@ -1,81 +1,37 @@
-// The words for curves and arithmetics, and what they stand for.
+// A curve under an arithmetic, and its words.
 ghost use mathlib.Core.Path.{_≡_};
 ghost use Rattle.export.specs.Answers.{answer};
-ghost use Rattle.digest.specs.Names.{curveOf, arithmeticOf, curveWord, arithmeticWord, Spelt};
+ghost use Rattle.query.specs.Meaning.{curveOf, arithmeticOf, curveWord, arithmeticWord};
+use query::ArithmeticName;
+use query::CurveName;
 use std::fmt;
 
-#[derive(Clone, Copy)]
-pub enum CurveName {
-    Exp,
-    Exp2,
-    Exp10,
-    Expm1,
-}
+pub const CURVES: [CurveName; 4] = [
+    CurveName::Exp,
+    CurveName::Exp2,
+    CurveName::Exp10,
+    CurveName::Expm1,
+];
 
-impl CurveName {
-    pub const ALL: [CurveName; 4] = [
-        CurveName::Exp,
-        CurveName::Exp2,
-        CurveName::Exp10,
-        CurveName::Expm1,
-    ];
+pub const ARITHMETICS: [ArithmeticName; 2] = [ArithmeticName::TwoStep, ArithmeticName::Fused];
 
-    // The curve that a word names.
-    pub fn read(word: &str) -> Option<CurveName>
-        ensures { λ r. ⌜ Spelt curveWord (now (word .entry)) r ⌝ }
-    {
-        match word {
-            "exp" => Some(CurveName::Exp),
-            "exp2" => Some(CurveName::Exp2),
-            "exp10" => Some(CurveName::Exp10),
-            "expm1" => Some(CurveName::Expm1),
-            _ => None,
-        }
+fn curve_word(curve: CurveName) -> &'static str
+    ensures { λ r. ⌜ now r ≡ curveWord curve ⌝ }
+{
+    match curve {
+        CurveName::Exp => "exp",
+        CurveName::Exp2 => "exp2",
+        CurveName::Exp10 => "exp10",
+        CurveName::Expm1 => "expm1",
     }
 }
 
-pub impl fmt::Display for CurveName as CurveNameDisplay {
-    fn fmt<W: fmt::Write>(&self, f: &mut fmt::Formatter<W>) -> fmt::Result {
-        f.write_str(
-            match self {
-                CurveName::Exp => "exp",
-                CurveName::Exp2 => "exp2",
-                CurveName::Exp10 => "exp10",
-                CurveName::Expm1 => "expm1",
-            },
-        )
-    }
-}
-
-#[derive(Clone, Copy)]
-pub enum ArithmeticName {
-    TwoStep,
-    Fused,
-}
-
-impl ArithmeticName {
-    pub const ALL: [ArithmeticName; 2] = [ArithmeticName::TwoStep, ArithmeticName::Fused];
-
-    // The arithmetic that a word names.
-    pub fn read(word: &str) -> Option<ArithmeticName>
-        ensures { λ r. ⌜ Spelt arithmeticWord (now (word .entry)) r ⌝ }
-    {
-        match word {
-            "two-step" => Some(ArithmeticName::TwoStep),
-            "fused" => Some(ArithmeticName::Fused),
-            _ => None,
-        }
-    }
-}
-
-pub impl fmt::Display for ArithmeticName as ArithmeticNameDisplay {
-    fn fmt<W: fmt::Write>(&self, f: &mut fmt::Formatter<W>) -> fmt::Result {
-        f.write_str(
-            match self {
-                ArithmeticName::TwoStep => "two-step",
-                ArithmeticName::Fused => "fused",
-            },
-        )
+fn arithmetic_word(arithmetic: ArithmeticName) -> &'static str
+    ensures { λ r. ⌜ now r ≡ arithmeticWord arithmetic ⌝ }
+{
+    match arithmetic {
+        ArithmeticName::TwoStep => "two-step",
+        ArithmeticName::Fused => "fused",
     }
 }
 
@@ -106,8 +62,8 @@ impl Pair {
 
 pub impl fmt::Display for Pair as PairDisplay {
     fn fmt<W: fmt::Write>(&self, f: &mut fmt::Formatter<W>) -> fmt::Result {
-        let curve = self.curve;
-        let arithmetic = self.arithmetic;
+        let curve = curve_word(self.curve);
+        let arithmetic = arithmetic_word(self.arithmetic);
         write!(f, "{curve} {arithmetic}")
     }
 }

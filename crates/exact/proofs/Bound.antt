@@ -1,23 +1,23 @@
--- |x| ≤ d for rationals, as two orders; how bounds go through sums and products; 1 / (k + 1).
-use mathlib.Core.Path.{_≡_, refl, sym, ap, ap₂, _∙_, subst}
+-- |x| ≤ d for rationals, as two orders; how bounds go through sums and products; whole numbers and 1 / (k + 1) among the rationals.
+use mathlib.Core.Path.{_≡_, refl, ap, _∙_, subst}
 use mathlib.Core.Bool.{Bool, true, false, not}
-use mathlib.Core.List.{List, [], _∷_}
-use Prim.Native.Nat.{ℕ, zero, suc, _+_, _-_, _*_, _<_, _≤_}
+use mathlib.Core.List.{[], _∷_}
+use Prim.Native.Nat.{ℕ, suc, _+_, _-_, _≤_}
 use native.Mathlib.Nat.{zero-lt-suc}
 use native.Mathlib.Omega.{arith}
-use lib.Dec.{T, T-prop}
-use lib.IntN.{ℤ, pos, negsuc, _+ℤ_, _-ℤ_, _*ℤ_, negℤ}
+use lib.Dec.{T}
+use lib.IntN.{pos, negsuc}
 use std.Quotient.{cls}
-use Rattle.exact.proofs.Ring.{Expr, var, con, _⊕_, _⊖_, _⊗_, ⊝, norm, ⟦_⟧}
-use Rattle.exact.proofs.Integer.{zring, x₀, x₁, x₂, x₃, x₄, x₅}
-use Rattle.exact.specs.Fraction.{Fraction, Same}
-use Rattle.exact.proofs.Rational.{ℚ, is, _+q_, _*q_, -q_, _-q_, ofℤ, qring, add-zeroq, of-addq}
-use Rattle.exact.proofs.Order.{nn, nn-add, nn-mul, nn-total, _≤q_, le-by, q-refl, q-trans, q-add, q-neg, q-mul, q-antisym}
+use Rattle.exact.proofs.Ring.{con, _⊕_, _⊖_, _⊗_, ⊝, norm}
+use Rattle.exact.proofs.Integer.{zring, x₀, x₁, x₂, x₃}
+use Rattle.exact.proofs.Rational.{ℚ, is, _+q_, _*q_, -q_, _-q_, ofℤ, qring, of-addq}
+use Rattle.exact.proofs.Order.{nn, nn-add, nn-mul, nn-total, _≤q_, le-by, q-refl, q-trans, q-add, q-neg, q-mul}
 
--- n, and 1 / (k + 1)
+-- n
 unfoldable pub ofℕ : ℕ → ℚ
 ofℕ n = ofℤ (pos n)
 
+-- 1 / (k + 1)
 unfoldable pub inv : ℕ → ℚ
 inv k = cls record { num = pos 1; den = suc k; ok = zero-lt-suc k }
 
@@ -110,6 +110,53 @@ bound-mul {x} {y} {d} {e} h k =
 pub bound-self : {a : ℚ} → T (nn a) → Bound a a
 unfolding norm _-q_
 bound-self {a} t = record { hi = q-refl a; lo = le-by (a +q a) (nn-add a a t t) (qring (x₀ ⊖ ⊝ x₀) (x₀ ⊕ x₀) refl (a ∷ [])) }
+
+-- either way round
+pub bound-turn : (a b : ℚ) {d : ℚ} → Bound (a -q b) d → Bound (b -q a) d
+unfolding norm _-q_
+bound-turn a b {d} h = subst (λ (x : ℚ). Bound x d) (qring (⊝ (x₀ ⊖ x₁)) (x₁ ⊖ x₀) refl (a ∷ b ∷ [])) (bound-neg h)
+
+-- from a to c by way of b
+pub bound-via : (a b c : ℚ) {d e : ℚ} → Bound (a -q b) d → Bound (b -q c) e → Bound (a -q c) (d +q e)
+unfolding norm _-q_
+bound-via a b c {d} {e} h k = subst (λ (x : ℚ). Bound x (d +q e)) (qring (x₀ ⊖ x₁ ⊕ (x₁ ⊖ x₂)) (x₀ ⊖ x₂) refl (a ∷ b ∷ c ∷ [])) (bound-add h k)
+
+-- a is at most b + d, and at least b - d
+pub bound-above : (a b d : ℚ) → Bound (a -q b) d → a ≤q b +q d
+unfolding norm _-q_
+bound-above a b d h = le-by (d -q (a -q b)) (h .hi .le) (qring (x₁ ⊕ x₂ ⊖ x₀) (x₂ ⊖ (x₀ ⊖ x₁)) refl (a ∷ b ∷ d ∷ []))
+
+pub bound-below : (a b d : ℚ) → Bound (a -q b) d → b -q d ≤q a
+unfolding norm _-q_
+bound-below a b d h = le-by (a -q b -q (-q_ d)) (h .lo .le) (qring (x₀ ⊖ (x₁ ⊖ x₂)) (x₀ ⊖ x₁ ⊖ ⊝ x₂) refl (a ∷ b ∷ d ∷ []))
+
+pub bound-both : (a b d : ℚ) → a ≤q b +q d → b -q d ≤q a → Bound (a -q b) d
+unfolding norm _-q_
+bound-both a b d h k = record {
+  hi = le-by (b +q d -q a) (h .le) (qring (x₂ ⊖ (x₀ ⊖ x₁)) (x₁ ⊕ x₂ ⊖ x₀) refl (a ∷ b ∷ d ∷ []));
+  lo = le-by (a -q (b -q d)) (k .le) (qring (x₀ ⊖ x₁ ⊖ ⊝ x₂) (x₀ ⊖ (x₁ ⊖ x₂)) refl (a ∷ b ∷ d ∷ []));
+}
+
+-- ---- factors
+pub mul-right : {a b : ℚ} (c : ℚ) → T (nn c) → a ≤q b → a *q c ≤q b *q c
+unfolding norm _-q_
+mul-right {a} {b} c t h = le-by (c *q (b -q a)) (nn-mul c (b -q a) t (h .le)) (qring (x₁ ⊗ x₂ ⊖ x₀ ⊗ x₂) (x₂ ⊗ (x₁ ⊖ x₀)) refl (a ∷ b ∷ c ∷ []))
+
+pub mul-mono : {a b c d : ℚ} → T (nn a) → T (nn c) → a ≤q b → c ≤q d → a *q c ≤q b *q d
+mul-mono {a} {b} {c} {d} na nc h k = q-trans (mul-right c nc h) (q-mul b (le-nn (q-trans (nn-le na) h)) k)
+
+-- what is added on the right
+pub le-plus : (a b : ℚ) → T (nn b) → a ≤q a +q b
+unfolding norm _-q_
+le-plus a b t = le-by b t (qring (x₀ ⊕ x₁ ⊖ x₀) x₁ refl (a ∷ b ∷ []))
+
+pub mul-one : (a : ℚ) → a *q ofℕ 1 ≡ a
+unfolding norm ofℕ
+mul-one a = qring (x₀ ⊗ con (pos 1)) x₀ refl (a ∷ [])
+
+pub less-than-itself : (x : ℚ) → x +q ofℕ 1 ≤q x → ⊥
+unfolding norm nn _-q_ ofℕ ofℤ
+less-than-itself x h = subst (λ (y : ℚ). T (nn y)) (qring (x₀ ⊖ (x₀ ⊕ con (pos 1))) (con (negsuc 0)) refl (x ∷ [])) (h .le)
 
 -- ---- the absolute value
 abbrev pub pick : Bool → ℚ → ℚ

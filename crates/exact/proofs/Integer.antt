@@ -1,11 +1,11 @@
 -- The integers as a commutative ring, and `zring`, which proves an equation of polynomials over them.
-use mathlib.Core.Path.{_≡_, refl, sym, ap, ap₂, _∙_, subst}
-use mathlib.Core.List.{List, [], _∷_}
-use Prim.Native.Nat.{ℕ, zero, suc, _+_, _*_}
+use mathlib.Core.Path.{_≡_, refl, ap}
+use mathlib.Core.List.{List}
+use Prim.Native.Nat.{ℕ, _+_, _*_}
 use native.Mathlib.Omega.{arith}
-use lib.IntN.{ℤ, pos, negsuc, _+ℤ_, _-ℤ_, _*ℤ_, negℤ, +ℤ-assoc, +ℤ-comm, +ℤ-idr, +ℤ-invr, *ℤ-comm}
+use lib.IntN.{ℤ, pos, _+ℤ_, _*ℤ_, negℤ, +ℤ-assoc, +ℤ-comm, +ℤ-idr, +ℤ-invr, *ℤ-comm}
 use borrow.Author.Differences.{ints, up, down, same-in, product-is, sum-is}
-use Rattle.exact.proofs.Ring.{CRing, Expr, var, con, _⊕_, _⊖_, _⊗_, ⊝, norm, ⟦_⟧, solve}
+use Rattle.exact.proofs.Ring.{CRing, Expr, var, norm, ⟦_⟧, solve}
 
 up-mul : (a b : ℤ) → up (a *ℤ b) ≡ up a * up b + down a * down b
 up-mul a b = product-is a b .0
@@ -50,6 +50,7 @@ ringℤ = record {
 pub zring : (a b : Expr) → norm a ≡ norm b → (ρ : List ℤ) → ⟦_⟧ ringℤ a ρ ≡ ⟦_⟧ ringℤ b ρ
 zring = solve ringℤ
 
+-- the variables of an equation, by their place in its list
 abbrev pub x₀ : Expr
 x₀ = var 0
 
@@ -67,3 +68,12 @@ x₄ = var 4
 
 abbrev pub x₅ : Expr
 x₅ = var 5
+
+abbrev pub x₆ : Expr
+x₆ = var 6
+
+abbrev pub x₇ : Expr
+x₇ = var 7
+
+abbrev pub x₈ : Expr
+x₈ = var 8

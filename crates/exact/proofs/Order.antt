@@ -1,18 +1,19 @@
 -- The order of the rationals.
-use mathlib.Core.Path.{_≡_, refl, sym, ap, ap₂, _∙_, subst}
+use mathlib.Core.Path.{_≡_, refl, sym, ap, _∙_, subst}
 use mathlib.Core.Bool.{Bool, true, false, not, Bool-set}
-use mathlib.Core.List.{List, [], _∷_}
+use mathlib.Core.List.{[], _∷_}
+use mathlib.Core.Logic.{inl, inr, _⊎_}
 use mathlib.Core.HLevel.{Π-prop}
-use Prim.Native.Nat.{ℕ, zero, suc, _+_, _*_, _<_, _≤_}
-use native.Mathlib.Nat.{mul-pos, zero-lt-suc, mul-le-mul-right, le-of-mul-le-mul-right, eq-of-mul-eq-mul-right}
+use Prim.Native.Nat.{zero, suc, _*_, _≤_}
+use native.Mathlib.Nat.{mul-le-mul-right, le-of-mul-le-mul-right}
 use native.Mathlib.Omega.{arith}
 use lib.Dec.{T, T-prop}
-use lib.IntN.{ℤ, pos, negsuc, _+ℤ_, _-ℤ_, _*ℤ_, negℤ}
+use lib.IntN.{ℤ, pos, negsuc, _+ℤ_, _*ℤ_, negℤ}
 use lib.Signed.{nonNeg}
-use borrow.Author.Differences.{ints, up, down, same-in, same-out, product-is, sum-is, neg-is, not-negative-in, not-negative-out}
-use std.Quotient.{_/_, cls, eq/, /-set, /-rec, /-rec₂, /-elim-prop, /-elim-prop₂, /-elim-prop₃}
-use Rattle.exact.proofs.Ring.{CRing, Expr, var, con, _⊕_, _⊖_, _⊗_, ⊝, norm, ⟦_⟧, solve}
-use Rattle.exact.proofs.Integer.{zring, x₀, x₁, x₂, x₃, x₄, x₅}
+use borrow.Author.Differences.{up, down, same-out, product-is, sum-is, not-negative-in, not-negative-out}
+use std.Quotient.{/-set, /-rec, /-elim-prop, /-elim-prop₂}
+use Rattle.exact.proofs.Ring.{con, _⊕_, _⊖_, _⊗_, ⊝, norm}
+use Rattle.exact.proofs.Integer.{zring, x₀, x₁, x₂, x₃}
 use Rattle.exact.specs.Fraction.{Fraction, Same}
 use Rattle.exact.proofs.Rational.{ℚ, is, _+q_, _*q_, -q_, _-q_, ofℤ, qring, add-zeroq}
 
@@ -115,24 +116,10 @@ q-antisym {a} {b} h k =
     ∙ ap (λ (x : ℚ). b +q x) (nn-antisym (a -q b) (k .le) (subst (λ (x : ℚ). T (nn x)) (qring (x₁ ⊖ x₀) (⊝ (x₀ ⊖ x₁)) refl (a ∷ b ∷ [])) (h .le)))
     ∙ add-zeroq b
 
--- d bounds the distance of a and b
-pub record Near (d a b : ℚ) : Type 0 where
-  pub above : a ≤q b +q d
-  pub below : b ≤q a +q d
-
-pub near-sym : {d a b : ℚ} → Near d a b → Near d b a
-near-sym h = record { above = h .below; below = h .above }
-
-pub near-trans : {d e a b c : ℚ} → Near d a b → Near e b c → Near (d +q e) a c
-unfolding norm
-near-trans {d} {e} {a} {b} {c} h k = record {
-  above = subst (λ (x : ℚ). a ≤q x) (qring (x₀ ⊕ x₂ ⊕ x₁) (x₀ ⊕ (x₁ ⊕ x₂)) refl (c ∷ d ∷ e ∷ [])) (q-trans (h .above) (q-add (k .above) (q-refl d)));
-  below = subst (λ (x : ℚ). c ≤q x) (qring (x₀ ⊕ x₁ ⊕ x₂) (x₀ ⊕ (x₁ ⊕ x₂)) refl (a ∷ d ∷ e ∷ [])) (q-trans (k .below) (q-add (h .below) (q-refl e)));
-}
-
-pub near-add : {d e a b u v : ℚ} → Near d a b → Near e u v → Near (d +q e) (a +q u) (b +q v)
-unfolding norm
-near-add {d} {e} {a} {b} {u} {v} h k = record {
-  above = subst (λ (x : ℚ). a +q u ≤q x) (qring (x₀ ⊕ x₁ ⊕ (x₂ ⊕ x₃)) (x₀ ⊕ x₂ ⊕ (x₁ ⊕ x₃)) refl (b ∷ d ∷ v ∷ e ∷ [])) (q-add (h .above) (k .above));
-  below = subst (λ (x : ℚ). b +q v ≤q x) (qring (x₀ ⊕ x₁ ⊕ (x₂ ⊕ x₃)) (x₀ ⊕ x₂ ⊕ (x₁ ⊕ x₃)) refl (a ∷ d ∷ u ∷ e ∷ [])) (q-add (h .below) (k .below));
-}
+pub q-total : (a b : ℚ) → (a ≤q b) ⊎ (b ≤q a)
+unfolding norm _-q_
+q-total a b = go (nn (b -q a)) (λ t. t) (nn-total (b -q a))
+  where
+    go : (x : Bool) → (T x → T (nn (b -q a))) → (T (not x) → T (nn (-q_ (b -q a)))) → (a ≤q b) ⊎ (b ≤q a)
+    go true f g = inl (record { le = f tt })
+    go false f g = inr (record { le = subst (λ (x : ℚ). T (nn x)) (qring (⊝ (x₁ ⊖ x₀)) (x₀ ⊖ x₁) refl (a ∷ b ∷ [])) (g tt) })

@@ -1,19 +1,12 @@
 -- The rational numbers: fractions, a whole number over one from 1 up, where two that are equal multiplied out are one number.
 -- A commutative ring, ordered by whether a difference is not negative.
-use mathlib.Core.Path.{_≡_, refl, sym, ap, ap₂, _∙_, subst}
-use mathlib.Core.Bool.{Bool, true, false, Bool-set}
+use mathlib.Core.Path.{_≡_, refl, ap, _∙_}
 use mathlib.Core.List.{List, [], _∷_}
-use mathlib.Core.Logic.{_⊎_, inl, inr}
-use Prim.Native.Nat.{ℕ, zero, suc, _+_, _*_, _<_, _≤_}
-use native.Mathlib.Nat.{mul-pos, zero-lt-suc, eq-of-mul-eq-mul-right}
-use native.Mathlib.Omega.{arith}
-use lib.Dec.{T, T-prop}
-use lib.IntN.{ℤ, pos, negsuc, _+ℤ_, _-ℤ_, _*ℤ_, negℤ}
-use lib.Signed.{nonNeg}
-use borrow.Author.Differences.{ints, up, down, same-in, same-out, product-is, sum-is, neg-is, not-negative-in, not-negative-out}
+use native.Mathlib.Nat.{zero-lt-suc}
+use lib.IntN.{ℤ, pos, _+ℤ_, _*ℤ_, negℤ}
 use Rattle.exact.specs.Fraction.{Fraction, Same, plus, times, opposite}
 use std.Quotient.{_/_, cls, eq/, /-set, /-rec, /-rec₂, /-elim-prop, /-elim-prop₂, /-elim-prop₃}
-use Rattle.exact.proofs.Ring.{CRing, Expr, var, con, _⊕_, _⊖_, _⊗_, ⊝, norm, ⟦_⟧, solve}
+use Rattle.exact.proofs.Ring.{CRing, Expr, con, _⊕_, _⊗_, ⊝, norm, ⟦_⟧, solve}
 use Rattle.exact.proofs.Integer.{zring, x₀, x₁, x₂, x₃, x₄, x₅}
 
 abbrev pub ℚ : Type 0

@@ -1,11 +1,11 @@
 -- A normaliser for commutative rings: two expressions with the same normal form have the same value in every commutative ring.
 -- Coefficients are integers, and `of` carries them into the ring.
-use mathlib.Core.Path.{_≡_, refl, sym, ap, ap₂, _∙_, subst}
+use mathlib.Core.Path.{_≡_, refl, sym, ap, ap₂, _∙_}
 use mathlib.Core.Bool.{Bool, true, false}
 use mathlib.Core.List.{List, [], _∷_}
 use Prim.Native.Nat.{ℕ, zero, suc, compare, Ordering, Ordering·lt, Ordering·eq, Ordering·gt}
 use lib.Dec.{T, leb, isEq, eqb→eq}
-use lib.IntN.{ℤ, pos, negsuc, _+ℤ_, _*ℤ_, negℤ}
+use lib.IntN.{ℤ, pos, negsuc, _+ℤ_, _*ℤ_}
 
 pub record CRing : Type 1 where
   pub carrier : Type 0

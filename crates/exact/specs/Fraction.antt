@@ -6,42 +6,53 @@ use lib.Pow.{pow-pos}
 use lib.IntN.{ℤ, pos, _+ℤ_, _*ℤ_, negℤ, natAbs}
 use lib.Signed.{_≤ℤ_}
 
+-- num / den
 pub record Fraction : Type 0 where
   pub num : ℤ
   pub den : ℕ
   pub ok : 0 < den
 
+-- z / c
+abbrev pub fraction : ℤ → (c : ℕ) → 0 < c → Fraction
+fraction z c C = record { num = z; den = c; ok = C }
+
 -- the whole number z
 abbrev pub integer : ℤ → Fraction
-integer z = record { num = z; den = 1; ok = zero-lt-suc 0 }
+integer z = fraction z 1 (zero-lt-suc 0)
 
+-- n
 abbrev pub whole : ℕ → Fraction
 whole n = integer (pos n)
 
 -- 1 / (k + 1)
 abbrev pub part : ℕ → Fraction
-part k = record { num = pos 1; den = suc k; ok = zero-lt-suc k }
+part k = fraction (pos 1) (suc k) (zero-lt-suc k)
 
 -- z / 2 ^ j
 abbrev pub dyadic : ℤ → ℕ → Fraction
-dyadic z j = record { num = z; den = 2 ^ j; ok = pow-pos j }
+dyadic z j = fraction z (2 ^ j) (pow-pos j)
 
+-- a + b
 abbrev pub plus : Fraction → Fraction → Fraction
 plus a b = record { num = a .num *ℤ pos (b .den) +ℤ b .num *ℤ pos (a .den); den = a .den * b .den; ok = mul-pos (a .ok) (b .ok) }
 
+-- a b
 abbrev pub times : Fraction → Fraction → Fraction
 times a b = record { num = a .num *ℤ b .num; den = a .den * b .den; ok = mul-pos (a .ok) (b .ok) }
 
+-- -a
 abbrev pub opposite : Fraction → Fraction
 opposite a = record { num = negℤ (a .num); den = a .den; ok = a .ok }
 
+-- |a|
 abbrev pub absolute : Fraction → Fraction
 absolute a = record { num = pos (natAbs (a .num)); den = a .den; ok = a .ok }
 
--- a - b, and its size: the distance of a and b
+-- a - b
 abbrev pub difference : Fraction → Fraction → Fraction
 difference a b = plus a (opposite b)
 
+-- |a - b|, the distance of a and b
 abbrev pub apart : Fraction → Fraction → Fraction
 apart a b = absolute (difference a b)
 

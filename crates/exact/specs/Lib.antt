@@ -1,1 +1,5 @@
 pub mod Fraction
+pub mod Exponential
+pub mod Logarithm
+pub mod Exact
+pub mod Laws

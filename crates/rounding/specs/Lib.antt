@@ -1,2 +1,7 @@
 pub mod Values
 pub mod Whole
+pub mod Ranges
+pub mod Units
+pub mod Nearest
+pub mod Operations
+pub mod Errors

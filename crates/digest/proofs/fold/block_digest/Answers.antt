@@ -1,6 +1,6 @@
 use Rattle.export.specs.Answers.{answer}
 use native.Mathlib.Omega.{arith}
-use Rattle.digest.specs.Names.{curveOf, arithmeticOf}
+use Rattle.query.specs.Meaning.{curveOf, arithmeticOf}
 use Rattle.digest.proofs.Turns.{after-turn}
 use Rattle.digest.proofs.fold.block_digest.Needs as need
 

@@ -1,7 +1,7 @@
 use Prim.Native.Nat.{_+_, _/_}
 use native.Mathlib.Omega.{arith}
 use Rattle.export.specs.Answers.{answer}
-use Rattle.digest.specs.Names.{curveOf, arithmeticOf}
+use Rattle.query.specs.Meaning.{curveOf, arithmeticOf}
 use Rattle.digest.proofs.Turns.{blocks-turn, blocks-end}
 use Rattle.digest.proofs.fold.whole_digest.Needs as need
 

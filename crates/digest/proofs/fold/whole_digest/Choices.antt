@@ -1,7 +1,7 @@
 use Prim.Native.Nat.{_-_, _+_, _/_}
 use mathlib.Core.Path.{_≡_}
 use Rattle.export.specs.Answers.{answer}
-use Rattle.digest.specs.Names.{curveOf, arithmeticOf}
+use Rattle.query.specs.Meaning.{curveOf, arithmeticOf}
 use Rattle.digest.specs.Digest.{afterBlocks, whole}
 use Rattle.digest.proofs.fold.whole_digest.Given as given
 

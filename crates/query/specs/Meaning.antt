@@ -11,10 +11,10 @@ use Rattle.curves.specs.Exp.{expValue}
 use Rattle.curves.specs.Exp2.{exp2Value}
 use Rattle.curves.specs.Exp10.{exp10Value}
 use Rattle.curves.specs.Expm1.{expm1Value}
-use Rattle.digest.specs.declared.names.CurveName.{CurveName}
-use Rattle.digest.specs.declared.names.CurveName.the-variants.{Exp, Exp2, Exp10, Expm1}
-use Rattle.digest.specs.declared.names.ArithmeticName.{ArithmeticName}
-use Rattle.digest.specs.declared.names.ArithmeticName.the-variants.{TwoStep, Fused}
+use Rattle.query.specs.declared.CurveName.{CurveName}
+use Rattle.query.specs.declared.CurveName.the-variants.{Exp, Exp2, Exp10, Expm1}
+use Rattle.query.specs.declared.ArithmeticName.{ArithmeticName}
+use Rattle.query.specs.declared.ArithmeticName.the-variants.{TwoStep, Fused}
 
 abbrev pub curveOf : CurveName → Arithmetic → Float → Float
 curveOf Exp = expValue

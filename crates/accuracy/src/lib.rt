@@ -1,0 +1,1 @@
+// Each curve near its exact value, for every lawful arithmetic.
