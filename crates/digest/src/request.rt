@@ -36,48 +36,43 @@ pub enum Request {
 }
 
 #[derive(Clone, Copy)]
-pub enum Mistake<'a> {
-    UnknownCurve(&'a str),
-    UnknownArithmetic(&'a str),
+pub enum Mistake {
+    UnknownCurve,
+    UnknownArithmetic,
     Blocks,
     Step,
     Words,
 }
 
-pub impl fmt::Display for Mistake<'_> as MistakeDisplay {
+pub impl fmt::Display for Mistake as MistakeDisplay {
     fn fmt<W: fmt::Write>(&self, f: &mut fmt::Formatter<W>) -> fmt::Result {
-        match self {
-            Mistake::UnknownCurve(w) => write!(f, "no curve `{w}`: exp, exp2, exp10 or expm1"),
-            Mistake::UnknownArithmetic(w) => write!(f, "no arithmetic `{w}`: two-step or fused"),
-            Mistake::Blocks => write!(
-                f,
-                "FIRST and COUNT are whole numbers, and FIRST + COUNT is at most 256"
-            ),
-            Mistake::Step => write!(f, "STEP is a whole number from 1 to 4294967295"),
-            Mistake::Words => write!(
-                f,
-                "expected CURVE ARITHMETIC, with FIRST COUNT or without, or --every STEP; see --help"
-            ),
-        }
+        f.write_str(
+            match self {
+                Mistake::UnknownCurve => "the first word is a curve: exp, exp2, exp10 or expm1",
+                Mistake::UnknownArithmetic => "the second word is an arithmetic: two-step or fused",
+                Mistake::Blocks =>
+                    "FIRST and COUNT are whole numbers, and FIRST + COUNT is at most 256",
+                Mistake::Step => "STEP is a whole number from 1 to 4294967295",
+                Mistake::Words =>
+                    "expected CURVE ARITHMETIC, with FIRST COUNT or without, or --every STEP; see --help",
+            },
+        )
     }
 }
 
-fn read_pair<'a>(curve: &'a str, arithmetic: &'a str) -> Result<Pair, Mistake<'a>>
+fn read_pair(curve: &str, arithmetic: &str) -> Result<Pair, Mistake>
     ensures { λ r. ⌜ made r (λ p. (now (curve .entry) ≡ curveWord (p .curve)) × (now (arithmetic .entry) ≡ arithmeticWord (p .arithmetic))) ⌝ }
 {
-    let Some(curve_name) = CurveName::read(curve) else {
-        return Err(Mistake::UnknownCurve(curve));
+    let Some(curve) = CurveName::read(curve) else {
+        return Err(Mistake::UnknownCurve);
     };
-    let Some(arithmetic_name) = ArithmeticName::read(arithmetic) else {
-        return Err(Mistake::UnknownArithmetic(arithmetic));
+    let Some(arithmetic) = ArithmeticName::read(arithmetic) else {
+        return Err(Mistake::UnknownArithmetic);
     };
-    Ok(Pair {
-        curve: curve_name,
-        arithmetic: arithmetic_name,
-    })
+    Ok(Pair { curve, arithmetic })
 }
 
-fn read_blocks(first: &str, count: &str) -> Result<Blocks, Mistake<'static>> {
+fn read_blocks(first: &str, count: &str) -> Result<Blocks, Mistake> {
     let (Ok(first), Ok(count)) = (first.parse::<u32>(), count.parse::<u32>()) else {
         return Err(Mistake::Blocks);
     };
@@ -88,14 +83,14 @@ fn read_blocks(first: &str, count: &str) -> Result<Blocks, Mistake<'static>> {
     }
 }
 
-fn read_every(step: &str) -> Result<Every, Mistake<'static>> {
+fn read_every(step: &str) -> Result<Every, Mistake> {
     let Ok(step) = step.parse::<u32>() else {
         return Err(Mistake::Step);
     };
     Every::new(step).ok_or(Mistake::Step)
 }
 
-pub fn read_request(words: &[String]) -> Result<Request, Mistake<'_>> {
+pub fn read_request(words: &[String]) -> Result<Request, Mistake> {
     match words {
         [help] if help.as_str() == "--help" => Ok(Request::Help),
         [option, step] if option.as_str() == "--every" => Ok(Request::Sample(

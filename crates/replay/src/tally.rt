@@ -1,5 +1,7 @@
 // How many lines there were for each curve and arithmetic, and how they compared.
 ghost use mathlib.Core.Path.{_≡_};
+ghost use Rattle.query.specs.Meaning.{curveWord, arithmeticWord};
+ghost use Rattle.replay.specs.Judged.{tallied};
 use crate::judge::Verdict;
 use query::ArithmeticName;
 use query::ArithmeticNamePartialEq;
@@ -9,7 +11,9 @@ use std::alloc::AllocError;
 use std::alloc::Global;
 use std::fmt;
 
-fn curve_word(curve: CurveName) -> &'static str {
+fn curve_word(curve: CurveName) -> &'static str
+    ensures { λ r. ⌜ now r ≡ curveWord curve ⌝ }
+{
     match curve {
         CurveName::Exp => "exp",
         CurveName::Exp2 => "exp2",
@@ -18,7 +22,9 @@ fn curve_word(curve: CurveName) -> &'static str {
     }
 }
 
-fn arithmetic_word(arithmetic: ArithmeticName) -> &'static str {
+fn arithmetic_word(arithmetic: ArithmeticName) -> &'static str
+    ensures { λ r. ⌜ now r ≡ arithmeticWord arithmetic ⌝ }
+{
     match arithmetic {
         ArithmeticName::TwoStep => "two-step",
         ArithmeticName::Fused => "fused",
@@ -61,7 +67,7 @@ impl Tally {
     }
 
     fn add(&mut self, verdict: Verdict)
-        ensures { λ _. ⌜ now (self .exit) .pair ≡ now (self .entry) .pair ⌝ }
+        ensures { λ _. ⌜ now (self .exit) ≡ tallied (now (self .entry)) verdict ⌝ }
     {
         self.lines = self.lines.saturating_add(1);
         match verdict {
