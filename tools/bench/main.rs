@@ -19,8 +19,8 @@ unsafe extern "C" {
 
 const CURVES: [&str; 4] = ["exp", "exp2", "exp10", "expm1"];
 const INPUTS: usize = 1 << 12;
-const CALLS: usize = 1 << 21;
-const ROUNDS: usize = 7;
+const CALLS: usize = 1 << 19;
+const ROUNDS: usize = 15;
 
 // Inputs in the table range, and in the band of the polynomial (exp has none: there the band just above near one).
 const TABLE: [(f32, f32); 4] = [(-87.0, 88.0), (-126.0, 127.5), (-37.5, 38.0), (-17.0, 88.0)];

@@ -28,8 +28,8 @@ Each line of standard input is CURVE ARITHMETIC PATTERN ANSWER, as
   exp two-step 0x3f800000 0x402df854
 with the curves exp, exp2, exp10 and expm1 and the arithmetics two-step and fused. Each line on which our answer
 is another is written, and at the end how many lines there were of each pair. exp10 differs on purpose from
-0xb25e5bbb to 0xb25e5bd9: there the crate works with a wrong last figure of ln 10, and ours is the f32 nearest to
-10^x. The program ends with status 1 where any other line differs or a line cannot be read.
+0xb25e5bbb to 0xb25e5bd9: there the crate works with a constant for ln 10 that is a little too large, and ours is
+the f32 nearest to 10^x. The program ends with status 1 where any other line differs or a line cannot be read.
 ";
 
 const NEAR_ONE: &str =
