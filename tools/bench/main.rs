@@ -19,8 +19,8 @@ unsafe extern "C" {
 
 const CURVES: [&str; 4] = ["exp", "exp2", "exp10", "expm1"];
 const INPUTS: usize = 1 << 12;
-const CALLS: usize = 1 << 19;
-const ROUNDS: usize = 15;
+const CALLS: usize = 1 << 16;
+const ROUNDS: usize = 151;
 
 // Inputs in the table range, and in the band of the polynomial (exp has none: there the band just above near one).
 const TABLE: [(f32, f32); 4] = [(-87.0, 88.0), (-126.0, 127.5), (-37.5, 38.0), (-17.0, 88.0)];
@@ -70,7 +70,7 @@ fn chained(f: impl Fn(f32) -> f32, xs: &[f32]) -> f64 {
     start.elapsed().as_nanos() as f64 / CALLS as f64
 }
 
-// The least of several rounds, for each of the three runs.
+// The least of many short rounds, for each of the three runs, so that other work on the machine counts little.
 fn measure(curve: usize, f: impl Fn(f32) -> f32 + Copy) -> [f64; 3] {
     let table = inputs(TABLE[curve], 1);
     let small = inputs(SMALL[curve], 2);
