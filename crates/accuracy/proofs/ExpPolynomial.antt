@@ -43,9 +43,13 @@ in-range = ((tt, inr (lit≤ tt, lit≤ tt)), (tt, inr (lit≤ tt, lit≤ tt)), 
 
 sizes : Bound (val c₀) (dy 1 0) × Bound (val c₁) (dy 1 0) × Bound (val c₂) (dy 1 0) × Bound (val c₃) (dy 1 0) × Bound (val c₄) (dy 2 0)
 unfolding nn _-q_ _+q_ -q_ val ofBits
-sizes =
-    (record { hi = record { le = tt }; lo = record { le = tt } }, record { hi = record { le = tt }; lo = record { le = tt } },
-    record { hi = record { le = tt }; lo = record { le = tt } }, record { hi = record { le = tt }; lo = record { le = tt } }, record { hi = record { le = tt }; lo = record { le = tt } })
+sizes = (
+  record { hi = record { le = tt }; lo = record { le = tt } },
+  record { hi = record { le = tt }; lo = record { le = tt } },
+  record { hi = record { le = tt }; lo = record { le = tt } },
+  record { hi = record { le = tt }; lo = record { le = tt } },
+  record { hi = record { le = tt }; lo = record { le = tt } },
+)
 
 start : Stage c₄ (val c₄) (dy 2 0) (dy 1 52)
 unfolding nn _-q_ _+q_ -q_ val ofBits
@@ -104,9 +108,13 @@ q₄ = inv 0 *q inv 1 *q inv 2 *q inv 3
 -- how far each coefficient is from 1 / k!
 coefficients : (Bound (val c₀ -q ofℕ 1) (dy 1 60)) × (Bound (val c₁ -q q₁) (dy 9 45)) × (Bound (val c₂ -q q₂) (dy 1 42)) × (Bound (val c₃ -q q₃) (dy 137 30)) × (Bound (val c₄ -q q₄) (dy 1 37))
 unfolding nn _-q_ _+q_ -q_ _*q_ ofℕ ofℤ val ofBits inv
-coefficients =
-    (record { hi = record { le = tt }; lo = record { le = tt } }, record { hi = record { le = tt }; lo = record { le = tt } },
-    record { hi = record { le = tt }; lo = record { le = tt } }, record { hi = record { le = tt }; lo = record { le = tt } }, record { hi = record { le = tt }; lo = record { le = tt } })
+coefficients = (
+  record { hi = record { le = tt }; lo = record { le = tt } },
+  record { hi = record { le = tt }; lo = record { le = tt } },
+  record { hi = record { le = tt }; lo = record { le = tt } },
+  record { hi = record { le = tt }; lo = record { le = tt } },
+  record { hi = record { le = tt }; lo = record { le = tt } },
+)
 
 S-four : (t : ℚ) → S t 4 ≡ t *q (t *q (t *q (t *q q₄ +q q₃) +q q₂) +q q₁) +q ofℕ 1
 unfolding S term norm ofℕ
