@@ -1,23 +1,15 @@
 -- exp by its tables: the f64 before the narrowing is within 2 ^ -45 of the exact value, relative to itself.
-use mathlib.Core.Path.{_≡_, refl, sym, ap, subst, _∙_}
-use mathlib.Core.Bool.{false}
-use mathlib.Core.List.{[], _∷_}
-use mathlib.Core.Logic.{_⊎_, inl, inr}
-use Prim.Native.Nat.{ℕ, _*_, _^_, _≤_}
-use native.Mathlib.Nat.{le-refl, le-trans}
+use mathlib.Core.Path.{sym, subst}
+use Prim.Native.Nat.{ℕ, _≤_}
 use lib.Dec.{T, lit≤}
 use lib.IntN.{pos}
 use lib.Ieee.{Float, binary32, binary64, mul, fits}
 use lib.Ieee.Scale.{finite}
-use Rattle.std.specs.Floats.{nearestIn}
 use Rattle.exact.specs.Exact.{exp}
-use Rattle.exact.proofs.Ring.{con, _⊕_, _⊖_, _⊗_, ⊝, norm}
-use Rattle.exact.proofs.Integer.{x₀, x₁, x₂, x₃}
-use Rattle.exact.proofs.Rational.{ℚ, _+q_, _*q_, -q_, _-q_, ofℤ, qring}
-use Rattle.exact.proofs.Order.{nn, nn-add, _≤q_, q-trans, q-add, q-refl, q-mul}
-use Rattle.exact.proofs.Bound.{ofℕ, absq, nn-le, le-nn, Bound, bound-more, bound-turn, mul-right, le-plus, nn-ofℕ}
+use Rattle.exact.proofs.Rational.{ℚ, _+q_, _*q_, -q_, _-q_, ofℤ}
+use Rattle.exact.proofs.Order.{nn, _≤q_, q-trans, q-mul}
+use Rattle.exact.proofs.Bound.{ofℕ, nn-le, le-nn, Bound, bound-more, bound-turn, mul-right}
 use Rattle.exact.proofs.Compare.{dy, nn-dy}
-use Rattle.exact.proofs.Relative.{Rel}
 use Rattle.exact.proofs.Series.{S}
 use Rattle.rounding.specs.Values.{value}
 use Rattle.rounding.proofs.Value.{val, val-value}
@@ -28,9 +20,9 @@ use Rattle.curves.specs.Exp.{k, lo, wholeRow, restRow, expPoly, expTables, ExpR
 use Rattle.accuracy.specs.Figures.{Right, Agree}
 use Rattle.accuracy.proofs.Law.{fma-law}
 use Rattle.accuracy.proofs.Rows.{part-factor}
-use Rattle.accuracy.proofs.ExpPolynomial.{Stages, stages, poly-near}
+use Rattle.accuracy.proofs.ExpPolynomial.{stages, poly-near}
 use Rattle.accuracy.proofs.TableProduct.{Product, row-times-polynomial, mul-rel, halves, rel-back}
-use Rattle.accuracy.proofs.ExpSplit.{Split, split, reaches-size}
+use Rattle.accuracy.proofs.ExpSplit.{split, reaches-size}
 use Rattle.accuracy.proofs.ExpLimit.{Beside, exp-placed}
 use Rattle.accuracy.proofs.Outcome as Outcome
 use Rattle.accuracy.proofs.Outcome.{close, Near, nearer, near-positive, Placed, right, agree}

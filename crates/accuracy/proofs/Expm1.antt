@@ -2,12 +2,12 @@
 use mathlib.Core.Path.{_≡_, refl, sym, ap, ap₂, subst, _∙_}
 use mathlib.Core.Bool.{Bool, true, false, not, cond, _&&_}
 use mathlib.Core.List.{[], _∷_}
-use mathlib.Core.Logic.{_⊎_, inl, inr}
-use Prim.Native.Nat.{ℕ, _+_, _*_, _^_, _≤_, _<_}
+use mathlib.Core.Logic.{inl, inr}
+use Prim.Native.Nat.{ℕ, _≤_, _<_}
 use native.Mathlib.Nat.{le-of-lt, lt-of-lt-of-le}
 use native.Mathlib.Omega.{arith}
 use lib.Dec.{T, leb, ltb, lit≤, leb→le, nleb→lt, ltb→lt, nltb→le, eqb→eq}
-use lib.IntN.{ℤ, pos}
+use lib.IntN.{ℤ}
 use lib.Ieee.{Float, nan, inf, fin, binary32, fits, isNan, ofBits, toBits}
 use lib.Ieee.Bits.{is-false}
 use lib.Ieee.Scale.{finite}
@@ -16,21 +16,19 @@ use Rattle.exact.proofs.Ring.{⊝, norm}
 use Rattle.exact.proofs.Integer.{x₀}
 use Rattle.exact.proofs.Rational.{ℚ, -q_, _-q_, _+q_, qring}
 use Rattle.exact.proofs.Order.{nn, _≤q_, q-trans, q-neg}
-use Rattle.exact.proofs.Bound.{Bound, absq, bound-more, bound-abs}
+use Rattle.exact.proofs.Bound.{Bound, bound-more}
 use Rattle.exact.proofs.Compare.{dy}
 use Rattle.rounding.specs.Values.{isZero}
-use Rattle.rounding.proofs.Fractions.{nn-frac}
-use Rattle.rounding.proofs.Distance.{abs-nn, abs-neg, abs-least}
 use Rattle.rounding.proofs.Value.{val, val-value}
 use Rattle.rounding.proofs.Patterns.{sized, sized-mono}
-use Rattle.arithmetic.specs.Arithmetic.{Arithmetic, Lawful}
+use Rattle.arithmetic.specs.Arithmetic.{Arithmetic}
 use Rattle.curves.specs.Steps.{pattern, magnitude, single}
 use Rattle.curves.specs.Exp.{ExpReaches}
 use Rattle.curves.specs.Expm1.{expm1Small, expm1Tables, expm1Value}
-use Rattle.accuracy.specs.Figures.{Right, Agree, equal, Special}
-use Rattle.accuracy.specs.Theorems.{CurveRight, CurveExact, CurveAgrees, CurveSpecial, Proved}
+use Rattle.accuracy.specs.Figures.{Right, Agree, equal}
+use Rattle.accuracy.specs.Theorems.{CurveRight, CurveAgrees, CurveSpecial, Proved}
 use Rattle.accuracy.specs.Arguments.{Expm1Reaches, Expm1Arguments}
-use Rattle.accuracy.proofs.Inputs.{Signed, positive, negative, signed-of, numberless, sized-bound, sized-size, zero-pattern}
+use Rattle.accuracy.proofs.Inputs.{positive, negative, signed-of, not-nan, sized-bound, sized-size, zero-pattern}
 use Rattle.accuracy.proofs.ExpSplit.{reaches-finite, table-arguments}
 use Rattle.accuracy.proofs.ExpLimit.{first-over, expm1-infinite}
 use Rattle.accuracy.proofs.Exp.{beside, infinity, over-top}
@@ -125,7 +123,7 @@ module _ (x : Float) (w : T (fits binary32 x)) (t : T (finite x)) where
 
 -- ---- what is promised
 pub expm1-right : CurveRight expm1
-expm1-right a w x fx t = go (band x (numberless x t))
+expm1-right a w x fx t = go (band x (not-nan x t))
   where
     go : Band x → Right expm1 x (expm1Value a x)
     go (self h e) = subst (λ (y : Float). Right expm1 x y) (sym (e a)) (itself x t fx (tiny x fx t h))
@@ -135,7 +133,7 @@ expm1-right a w x fx t = go (band x (numberless x t))
     go (tables r h e) = subst (λ (y : Float). Right expm1 x y) (sym (e a)) (tables-right a w x fx (reaches x r) (beside x fx t) (away x fx t h))
 
 pub expm1-agrees : CurveAgrees expm1
-expm1-agrees a b w u x fx t = go (band x (numberless x t))
+expm1-agrees a b w u x fx t = go (band x (not-nan x t))
   where
     go : Band x → Agree expm1 x (expm1Value a x) (expm1Value b x)
     go (self h e) = equal (e a ∙ sym (e b))
