@@ -18,6 +18,7 @@ use Rattle.curves.specs.Tables.{expM1, expM2}
 use Rattle.curves.specs.Steps.{row}
 use Rattle.curves.specs.Exp.{k, lo, wholeRow, restRow, expPoly, expTables, ExpReaches}
 use Rattle.accuracy.specs.Figures.{Right, Agree}
+use Rattle.accuracy.specs.Inner.{expWide}
 use Rattle.accuracy.proofs.Law.{fma-law}
 use Rattle.accuracy.proofs.Rows.{part-factor}
 use Rattle.accuracy.proofs.ExpPolynomial.{stages, poly-near}
@@ -34,10 +35,6 @@ exp-product a w x fx t =
     let g = stages (a .fma) (fma-law a w) (lo a x) (s .range-lo) (s .small-lo) in
     subst (λ (u : ℚ). Product (mul binary64 (expPoly a x) (row expM1 (wholeRow (k a x)))) (row expM2 (restRow (k a x))) u) (sym (s .sum))
     (row-times-polynomial (lo a x) (expPoly a x) (s .small-lo) (poly-near (lo a x) (expPoly a x) (s .small-lo) (g .last .ball)) (wholeRow (k a x)) (restRow (k a x)) (s .whole-row) (s .rest-row))
-
--- the f64 that is narrowed
-abbrev pub expWide : Arithmetic → Float → Float
-expWide a x = mul binary64 (mul binary64 (expPoly a x) (row expM1 (wholeRow (k a x)))) (row expM2 (restRow (k a x)))
 
 numbers : (dy 1 1022 ≤q dy 1 322) × (dy 1 400 ≤q dy 1 1 *q dy 1 322) × ((dy 231 53 +q dy 1 53) *q (ofℤ (pos 1) +q dy 1 52) ≤q dy 1 45) × (dy 1 45 ≤q dy 1 38) × (ofℕ 105 ≤q ofℕ 106) × T (nn (dy 231 53))
 unfolding nn _-q_ _+q_ -q_ _*q_ ofℕ ofℤ

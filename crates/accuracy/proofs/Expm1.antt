@@ -81,7 +81,7 @@ band x t = go (ltb (magnitude x) 0x3300_0000) (leb 0xc18a_a123 (pattern x)) (ltb
     go false false false false e f g h = computed record { number = t; past-self = nltb→le (magnitude x) 0x3300_0000 (after-not e tt); limits = inr (nltb→le (pattern x) 0x8000_0000 (after-not g tt), nleb→lt 0xc18a_a123 (pattern x) (after-not f tt)) } (ltb (magnitude x) 0x3d80_0000) refl (λ a. taken a x false false false false _ n e f (ap₂ (λ (b c : Bool). b && c) g h) refl)
 
 -- what reaches the steps of expm1 reaches those of exp
-reaches : (x : Float) → Expm1Reaches x → ExpReaches x
+pub reaches : (x : Float) → Expm1Reaches x → ExpReaches x
 reaches x r = record {
   number = r .number;
   past-one = lt-of-lt-of-le (lit≤ tt) (r .past-self);
@@ -107,7 +107,7 @@ module _ (x : Float) (w : T (fits binary32 x)) (t : T (finite x)) where
     | negative l m v ↦ subst (λ (u : ℚ). seventeen ≤q u) (sym (ap -q_ v ∙ qring (⊝ (⊝ x₀)) x₀ refl (sized (magnitude x) ∷ []))) (q-trans (ends .1) (sized-mono 0x418a_a123 (magnitude x) (omega arith)))
   ]
 
-  small-size : 0x3300_0000 ≤ magnitude x → magnitude x < 0x3d80_0000 → Small x
+  pub small-size : 0x3300_0000 ≤ magnitude x → magnitude x < 0x3d80_0000 → Small x
   small-size l h = record {
     is-finite = t;
     is-fit = w;
@@ -115,7 +115,7 @@ module _ (x : Float) (w : T (fits binary32 x)) (t : T (finite x)) where
     most = subst (λ (u : ℚ). u ≤q dy 1 4) (sym (sized-size x w t)) (q-trans (sized-mono (magnitude x) 0x3d80_0000 (le-of-lt h)) (ends .3));
   }
 
-  away : 0x3d80_0000 ≤ magnitude x → AwayFromZero (val x)
+  pub away : 0x3d80_0000 ≤ magnitude x → AwayFromZero (val x)
   away h = elim (signed-of x w t) [
     | positive l m v ↦ inl (subst (λ (u : ℚ). sixteenth ≤q u) (sym (v ∙ ap (λ (n : ℕ). sized n) (sym m))) (q-trans (ends .4) (sized-mono 0x3d80_0000 (magnitude x) h)))
     | negative l m v ↦ inr (subst (λ (u : ℚ). u ≤q -q_ sixteenth) (sym v) (q-neg (q-trans (ends .4) (sized-mono 0x3d80_0000 (magnitude x) h))))

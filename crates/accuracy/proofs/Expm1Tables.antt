@@ -36,6 +36,7 @@ use Rattle.curves.specs.Steps.{double, row}
 use Rattle.curves.specs.Exp.{k, wholeRow, restRow, expPoly, ExpReaches}
 use Rattle.curves.specs.Expm1.{expm1Tables}
 use Rattle.accuracy.specs.Figures.{Right, Agree}
+use Rattle.accuracy.specs.Inner.{expm1Wide}
 use Rattle.accuracy.specs.Arguments.{LastArguments}
 use Rattle.accuracy.proofs.Law.{fma-law}
 use Rattle.accuracy.proofs.Rows.{part-factor}
@@ -202,10 +203,7 @@ away-low A q most h b = elim (q-total low q) [
       absurd (no-gap (ofℕ 1 +q dy 1 20) (q-trans (away-numbers .8) (q-trans (mul-right bottom (away-numbers .2) (q-trans (q-mul (one -q m) (away-numbers .7) g) v)) e)))
 ]
 
--- ---- the f64 that is narrowed
-abbrev pub expm1Wide : Arithmetic → Float → Float
-expm1Wide a x = a .fma (mul binary64 (expPoly a x) (row expM1 (wholeRow (k a x)))) (row expM2 (restRow (k a x))) (neg (double 0x3ff0_0000_0000_0000))
-
+-- ---- the f64 that is narrowed: its arguments
 range-numbers : (dy 1 400 ≤q dy 1 162) × (ofℕ (2 ^ 163) ≤q ofℕ (2 ^ 400)) × (dy 1 400 ≤q dy 1 160) × (ofℕ (2 ^ 160) ≤q ofℕ (2 ^ 400)) × (ofℕ 105 ≤q ofℕ 106) × (near-by ≤q close) × (-q_ sixteenth ≤q last-under)
 unfolding nn _-q_ _+q_ -q_ ofℕ ofℤ
 range-numbers = (record { le = tt }, record { le = tt }, record { le = tt }, record { le = tt }, record { le = tt }, record { le = tt }, record { le = tt })
