@@ -3,33 +3,29 @@ use mathlib.Core.Path.{_≡_, refl, sym, ap, ap₂, subst, _∙_}
 use mathlib.Core.Bool.{Bool, true, false, not, cond, _&&_}
 use mathlib.Core.Logic.{_⊎_, inl, inr}
 use mathlib.Core.List.{[], _∷_}
-use Prim.Native.Nat.{ℕ, zero-le, _+_, _*_, _^_, _≤_, _<_}
-use native.Mathlib.Nat.{le-of-lt}
+use Prim.Native.Nat.{ℕ, zero-le, _≤_, _<_}
 use native.Mathlib.Omega.{arith}
-use lib.Dec.{T, leb, ltb, lit≤, leb→le, nleb→lt, ltb→lt, nltb→le, not-T, eqb→eq}
+use lib.Dec.{T, leb, ltb, leb→le, nleb→lt, ltb→lt, nltb→le, eqb→eq}
 use lib.IntN.{ℤ, pos}
-use lib.Ieee.{Float, nan, inf, fin, binary32, fits, isNan, ofBits, toBits, up, down}
-use lib.Ieee.Bits.{is-true, is-false}
+use lib.Ieee.{Float, nan, inf, fin, binary32, fits, isNan, ofBits, toBits}
+use lib.Ieee.Bits.{is-false}
 use lib.Ieee.Scale.{finite}
-use std.Quotient.{cls}
 use Rattle.exact.specs.Exact.{exp}
 use Rattle.exact.proofs.Ring.{⊝, norm}
 use Rattle.exact.proofs.Integer.{x₀}
-use Rattle.exact.proofs.Rational.{ℚ, -q_, _-q_, _+q_, ofℤ, qring}
+use Rattle.exact.proofs.Rational.{ℚ, -q_, _-q_, _+q_, qring}
 use Rattle.exact.proofs.Order.{nn, _≤q_, q-trans, q-neg}
-use Rattle.exact.proofs.Bound.{Bound, bound-more, bound-self, bound-neg}
-use Rattle.exact.proofs.Compare.{fr, dy}
-use Rattle.rounding.specs.Values.{value, isZero}
-use Rattle.rounding.proofs.Fractions.{nn-frac}
+use Rattle.exact.proofs.Bound.{Bound, bound-more}
+use Rattle.exact.proofs.Compare.{dy}
+use Rattle.rounding.specs.Values.{isZero}
 use Rattle.rounding.proofs.Value.{val, val-value}
-use Rattle.rounding.proofs.Patterns.{sized, size-of, sized-mono}
-use Rattle.arithmetic.specs.Arithmetic.{Arithmetic, Lawful}
+use Rattle.rounding.proofs.Patterns.{sized, sized-mono}
+use Rattle.arithmetic.specs.Arithmetic.{Arithmetic}
 use Rattle.curves.specs.Steps.{pattern, magnitude, single}
 use Rattle.curves.specs.Exp.{expTables, expValue, ExpReaches}
-use Rattle.curves.proofs.Sizes as Sizes
-use Rattle.accuracy.specs.Figures.{Right, Agree, equal, Special}
-use Rattle.accuracy.specs.Theorems.{CurveRight, CurveExact, CurveAgrees, CurveSpecial, Proved}
-use Rattle.accuracy.proofs.Inputs.{Signed, positive, negative, signed-of, numberless, decide, sized-bound, zero-pattern}
+use Rattle.accuracy.specs.Figures.{Right, Agree, equal}
+use Rattle.accuracy.specs.Theorems.{CurveRight, CurveAgrees, CurveSpecial, Proved}
+use Rattle.accuracy.proofs.Inputs.{positive, negative, signed-of, not-nan, decide, sized-bound, zero-pattern}
 use Rattle.accuracy.proofs.ExpLimit.{last-under, first-over, Beside, exp-infinite}
 use Rattle.accuracy.proofs.ExpBands.{near-one, zero-from, lowest}
 use Rattle.accuracy.proofs.ExpTables.{tables-right, tables-agree}
@@ -42,13 +38,15 @@ pub data Band (x : Float) : Type 0 where
   tables : ExpReaches x → ((a : Arithmetic) → expValue a x ≡ expTables a x) → Band x
 
 -- four tests in order
-taken : (a : Arithmetic) (x : Float) (p q r s : Bool) → isNan x ≡ p → leb (magnitude x) 0x3280_0000 ≡ q → leb 0xc2cf_f1b5 (pattern x) ≡ r → ltb (pattern x) 0x8000_0000 && leb 0x42b2_0000 (pattern x) ≡ s
-    → expValue a x ≡ cond p (single 0x7fc0_0000) (cond q (single 0x3f80_0000) (cond r (single 0x0000_0000) (cond s (single 0x7f80_0000) (expTables a x))))
+abbrev choose : Arithmetic → Float → Bool → Bool → Bool → Bool → Float
+choose a x p q r s = cond p (single 0x7fc0_0000) (cond q (single 0x3f80_0000) (cond r (single 0x0000_0000) (cond s (single 0x7f80_0000) (expTables a x))))
+
+taken : (a : Arithmetic) (x : Float) (p q r s : Bool) → isNan x ≡ p → leb (magnitude x) 0x3280_0000 ≡ q → leb 0xc2cf_f1b5 (pattern x) ≡ r → ltb (pattern x) 0x8000_0000 && leb 0x42b2_0000 (pattern x) ≡ s → expValue a x ≡ choose a x p q r s
 taken a x p q r s e f g h =
-    ap (λ (b : Bool). cond b (single 0x7fc0_0000) (cond (leb (magnitude x) 0x3280_0000) (single 0x3f80_0000) (cond (leb 0xc2cf_f1b5 (pattern x)) (single 0x0000_0000) (cond (ltb (pattern x) 0x8000_0000 && leb 0x42b2_0000 (pattern x)) (single 0x7f80_0000) (expTables a x))))) e
-    ∙ ap (λ (b : Bool). cond p (single 0x7fc0_0000) (cond b (single 0x3f80_0000) (cond (leb 0xc2cf_f1b5 (pattern x)) (single 0x0000_0000) (cond (ltb (pattern x) 0x8000_0000 && leb 0x42b2_0000 (pattern x)) (single 0x7f80_0000) (expTables a x))))) f
-    ∙ ap (λ (b : Bool). cond p (single 0x7fc0_0000) (cond q (single 0x3f80_0000) (cond b (single 0x0000_0000) (cond (ltb (pattern x) 0x8000_0000 && leb 0x42b2_0000 (pattern x)) (single 0x7f80_0000) (expTables a x))))) g
-    ∙ ap (λ (b : Bool). cond p (single 0x7fc0_0000) (cond q (single 0x3f80_0000) (cond r (single 0x0000_0000) (cond b (single 0x7f80_0000) (expTables a x))))) h
+    ap (λ (b : Bool). choose a x b (leb (magnitude x) 0x3280_0000) (leb 0xc2cf_f1b5 (pattern x)) (ltb (pattern x) 0x8000_0000 && leb 0x42b2_0000 (pattern x))) e
+    ∙ ap (λ (b : Bool). choose a x p b (leb 0xc2cf_f1b5 (pattern x)) (ltb (pattern x) 0x8000_0000 && leb 0x42b2_0000 (pattern x))) f
+    ∙ ap (λ (b : Bool). choose a x p q b (ltb (pattern x) 0x8000_0000 && leb 0x42b2_0000 (pattern x))) g
+    ∙ ap (λ (b : Bool). choose a x p q r b) h
 
 band : (x : Float) → T (not (isNan x)) → Band x
 band x t = go (leb (magnitude x) 0x3280_0000) (leb 0xc2cf_f1b5 (pattern x)) (ltb (pattern x) 0x8000_0000) (leb 0x42b2_0000 (pattern x)) refl refl refl refl
@@ -111,7 +109,7 @@ infinity = refl
 
 -- ---- what is promised
 pub exp-right : CurveRight exp
-exp-right a w x fx t = go (band x (numberless x t))
+exp-right a w x fx t = go (band x (not-nan x t))
   where
     go : Band x → Right exp x (expValue a x)
     go (one h e) = subst (λ (y : Float). Right exp x y) (sym (e a)) (near-one x (small x fx t h))
@@ -120,7 +118,7 @@ exp-right a w x fx t = go (band x (numberless x t))
     go (tables r e) = subst (λ (y : Float). Right exp x y) (sym (e a)) (tables-right a w x fx r (beside x fx t))
 
 pub exp-agrees : CurveAgrees exp
-exp-agrees a b w u x fx t = go (band x (numberless x t))
+exp-agrees a b w u x fx t = go (band x (not-nan x t))
   where
     go : Band x → Agree exp x (expValue a x) (expValue b x)
     go (one h e) = equal (e a ∙ sym (e b))

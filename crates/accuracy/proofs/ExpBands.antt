@@ -1,7 +1,7 @@
 -- exp where no table is read: 1 near zero, and +0 far below it.
 use mathlib.Core.Path.{_≡_, refl, sym, ap, subst, _∙_}
 use mathlib.Core.List.{[], _∷_}
-use Prim.Native.Nat.{ℕ, suc, _+_, _-_, _*_, _^_, _≤_}
+use Prim.Native.Nat.{ℕ, suc, _-_, _^_, _≤_}
 use native.Mathlib.Nat.{zero-lt-suc}
 use lib.Dec.{T, lit≤}
 use lib.Pow.{pow-pos}
@@ -11,11 +11,11 @@ use lib.Ieee.Scale.{finite}
 use std.Quotient.{cls}
 use Rattle.exact.specs.Fraction.{opposite, times}
 use Rattle.exact.specs.Exact.{exp}
-use Rattle.exact.proofs.Ring.{con, _⊕_, _⊖_, _⊗_, ⊝, norm}
+use Rattle.exact.proofs.Ring.{con, _⊕_, _⊖_, ⊝, norm}
 use Rattle.exact.proofs.Integer.{x₀, x₁, x₂}
 use Rattle.exact.proofs.Rational.{ℚ, is, _+q_, _*q_, -q_, _-q_, ofℤ, qring}
-use Rattle.exact.proofs.Order.{nn, nn-add, _≤q_, le-by, q-refl, q-trans, q-add}
-use Rattle.exact.proofs.Bound.{ofℕ, inv, Bound, bound-more, bound-add, bound-neg, bound-turn, bound-above}
+use Rattle.exact.proofs.Order.{nn, _≤q_, q-refl, q-trans, q-add}
+use Rattle.exact.proofs.Bound.{ofℕ, inv, Bound, bound-more, bound-add, bound-neg, bound-above}
 use Rattle.exact.proofs.Compare.{fr, dy, neg-cls}
 use Rattle.exact.proofs.Series.{S, from, later}
 use Rattle.exact.proofs.Compute.{run, test, held}
@@ -75,7 +75,7 @@ zero-sums : (n : ℕ) → 300 ≤ n → ofℕ (suc zero-least) ≤q S zero-from 
 zero-sums n h = later (λ i. ofℕ (suc zero-least) ≤q S zero-from i) 300 (λ j.
     q-trans (zero-numbers .0) (sum-bottom (fr (pos (2 ^ 150)) 1 (zero-lt-suc 0)) (S zero-from (from 300 j)) (fr (pos (2 ^ 137)) 1 (zero-lt-suc 0)) (held (pos 0xcff1b5) (2 ^ 17) (pow-pos 17) 300 1 (2 ^ 150) (2 ^ 137) (zero-lt-suc 0) (lit≤ tt) zero-test j))) n h
 
--- a figure y of value c, and sums that vanish: within d of 0 from some place on
+-- far below 0 the sums vanish: where those at a₀ are at least m + 1, those at an x from -a₀ down are at most (1 + 1 / (e + 1)) / (m + 1) in size, from some place on
 pub vanishing : (x : Float) (a₀ : ℚ) (m e n₁ : ℕ) → T (nn a₀) → a₀ ≤q -q_ (val x) → ((n : ℕ) → n₁ ≤ n → ofℕ (suc m) ≤q S a₀ n)
     → (k : ℕ) × ((n : ℕ) → k ≤ n → Bound (S (cls (value x)) n) ((ofℕ 1 +q inv e) *q inv m))
 unfolding norm

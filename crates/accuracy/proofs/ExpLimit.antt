@@ -1,10 +1,10 @@
 -- The two f32 between which e ^ x reaches 2 ^ 128 - 2 ^ 103, for exp and expm1: from the one on the sums are above the limit, and up to the other below it.
-use mathlib.Core.Path.{_≡_, refl, sym, ap, subst, _∙_}
+use mathlib.Core.Path.{_≡_, refl, subst}
 use mathlib.Core.Bool.{Bool, true, false, not}
 use mathlib.Core.List.{[], _∷_}
 use mathlib.Core.Logic.{_⊎_, inl, inr}
-use Prim.Native.Nat.{ℕ, _+_, _-_, _*_, _^_, _≤_, _<_}
-use native.Mathlib.Nat.{zero-lt-suc, le-trans, le-refl}
+use Prim.Native.Nat.{ℕ, _+_, _-_, _*_, _^_, _≤_}
+use native.Mathlib.Nat.{zero-lt-suc, le-trans}
 use lib.Dec.{T, lit≤}
 use lib.Pow.{pow-pos}
 use lib.IntN.{pos}
@@ -12,11 +12,11 @@ use lib.Ieee.{Float, inf}
 use std.Quotient.{cls}
 use Rattle.exact.specs.Fraction.{Fraction}
 use Rattle.exact.specs.Exact.{exp, expm1}
-use Rattle.exact.proofs.Ring.{con, _⊕_, _⊖_, _⊗_, ⊝, norm}
-use Rattle.exact.proofs.Integer.{x₀, x₁, x₂, x₃}
+use Rattle.exact.proofs.Ring.{_⊕_, _⊖_, ⊝, norm}
+use Rattle.exact.proofs.Integer.{x₀, x₁, x₂}
 use Rattle.exact.proofs.Rational.{ℚ, _+q_, _*q_, -q_, _-q_, ofℤ, qring}
-use Rattle.exact.proofs.Order.{nn, nn-add, nn-mul, nn-total, _≤q_, le-by, q-refl, q-trans, q-add, q-mul}
-use Rattle.exact.proofs.Bound.{ofℕ, inv, nn-ofℕ, ofℕ-mono, Bound, bound-more, bound-neg}
+use Rattle.exact.proofs.Order.{nn, nn-add, nn-total, _≤q_, le-by, q-refl, q-trans, q-add}
+use Rattle.exact.proofs.Bound.{ofℕ, inv, nn-ofℕ, ofℕ-mono, Bound, bound-neg}
 use Rattle.exact.proofs.Compare.{fr}
 use Rattle.exact.proofs.Series.{term, S, R, from, later}
 use Rattle.exact.proofs.Compute.{run, test, held}
@@ -25,7 +25,7 @@ use Rattle.exact.proofs.Growth.{S-mono, R-mono}
 use Rattle.exact.proofs.Negative.{S-negative}
 use Rattle.rounding.specs.Values.{value}
 use Rattle.accuracy.specs.Figures.{Right}
-use Rattle.accuracy.proofs.Outcome.{Under, Over, Placed, under, over, right-infinite}
+use Rattle.accuracy.proofs.Outcome.{Under, Placed, under, over, right-infinite}
 
 -- the limit
 abbrev top : ℕ

@@ -1,5 +1,5 @@
 -- The polynomial of exp and expm1 beside their table rows, for |t| at most 1/256: five coefficients, near the series.
-use mathlib.Core.Path.{_≡_, refl, sym, ap, subst}
+use mathlib.Core.Path.{_≡_, refl, sym, subst}
 use mathlib.Core.List.{[], _∷_}
 use mathlib.Core.Logic.{inr}
 use Prim.Native.Nat.{ℕ, _^_, _≤_}
@@ -11,7 +11,7 @@ use Rattle.exact.proofs.Ring.{con, _⊕_, _⊖_, _⊗_, ⊝, norm}
 use Rattle.exact.proofs.Integer.{x₀, x₁, x₂, x₃, x₄}
 use Rattle.exact.proofs.Rational.{ℚ, _+q_, _*q_, -q_, _-q_, ofℤ, qring}
 use Rattle.exact.proofs.Order.{nn, nn-add, _≤q_, le-by, q-trans, q-mul}
-use Rattle.exact.proofs.Bound.{ofℕ, inv, nn-le, le-nn, Bound, bound-more, bound-add, bound-mul, bound-neg, bound-turn, bound-via}
+use Rattle.exact.proofs.Bound.{ofℕ, inv, Bound, bound-more, bound-add, bound-mul, bound-turn, bound-via}
 use Rattle.exact.proofs.Relative.{Rel}
 use Rattle.exact.proofs.Series.{term, S, R, from, later, tail}
 use Rattle.rounding.specs.Ranges.{Ranged}

@@ -1,10 +1,10 @@
 -- The split of exp and expm1 in rationals: x is the sum of the two rows' arguments and lo, and every argument of the split and of the polynomial lies in the law's ranges.
 use mathlib.Core.Path.{_≡_, refl, sym, ap, ap₂, subst, _∙_}
-use mathlib.Core.Bool.{true, false, not}
+use mathlib.Core.Bool.{true, false}
 use mathlib.Core.List.{[], _∷_}
-use mathlib.Core.Logic.{_⊎_, inl, inr, ⊎-elim}
+use mathlib.Core.Logic.{inl, inr, ⊎-elim}
 use Prim.Native.Nat.{ℕ, _+_, _*_, _/_, _%_, _^_, _≤_, _<_}
-use native.Mathlib.Nat.{zero-lt-suc, mul-pos, le-of-lt}
+use native.Mathlib.Nat.{le-of-lt}
 use native.Mathlib.Omega.{arith}
 use lib.Dec.{T, lit≤}
 use lib.Pow.{pow-pos}
@@ -14,12 +14,12 @@ use lib.Ieee.Fits.{mul-fits}
 use lib.Ieee.Scale.{finite}
 use borrow.Author.Differences.{ints}
 use std.Quotient.{cls}
-use Rattle.exact.specs.Fraction.{dyadic, difference, integer}
+use Rattle.exact.specs.Fraction.{dyadic}
 use Rattle.exact.proofs.Ring.{con, _⊕_, _⊖_, _⊗_, ⊝, norm}
-use Rattle.exact.proofs.Integer.{zring, x₀, x₁, x₂}
+use Rattle.exact.proofs.Integer.{zring, x₀, x₁}
 use Rattle.exact.proofs.Rational.{ℚ, is, _+q_, _*q_, -q_, _-q_, ofℤ, qring}
 use Rattle.exact.proofs.Order.{nn, _≤q_, q-refl, q-trans, q-neg}
-use Rattle.exact.proofs.Bound.{ofℕ, nn-ofℕ, Bound, bound-more, bound-add, bound-mul, bound-self, bound-neg}
+use Rattle.exact.proofs.Bound.{ofℕ, Bound, bound-more, bound-add, bound-mul, bound-self, bound-neg}
 use Rattle.exact.proofs.Compare.{fr, abs-in, diff-cls}
 use Rattle.rounding.specs.Values.{value}
 use Rattle.rounding.specs.Ranges.{Ranged, Permitted}
@@ -27,20 +27,17 @@ use Rattle.rounding.proofs.Fractions.{dy, nn-frac}
 use Rattle.rounding.proofs.Value.{val, val-value, mul-rounds}
 use Rattle.rounding.proofs.Error.{eps, tiny, round-err}
 use Rattle.rounding.proofs.Multiple.{Mult, Away, away-more, away-above, away-below, mult-away, mult-whole}
-use Rattle.rounding.proofs.Range.{FmaLaw, permitted-fits, ranged, ranged-finite}
-use Rattle.rounding.proofs.WholeNumber.{NearWhole}
+use Rattle.rounding.proofs.Range.{permitted-fits, ranged, ranged-finite}
 use Rattle.rounding.proofs.Patterns.{sized, size-of, sized-mono}
-use Rattle.arithmetic.specs.Arithmetic.{Arithmetic, Lawful, within, small}
-use Rattle.curves.specs.Steps.{pattern, magnitude, single, double}
+use Rattle.arithmetic.specs.Arithmetic.{Arithmetic, Lawful, small}
+use Rattle.curves.specs.Steps.{pattern, magnitude, single}
 use Rattle.curves.specs.Exp.{kf, k, lo, shifted, wholeRow, restRow, ExpReaches}
-use Rattle.curves.specs.Split.{Splits, InRows}
 use Rattle.curves.proofs.Natural.{exp-splits}
-use Rattle.accuracy.specs.Arguments.{Asked, AskedWhole, TableArguments, ExpArguments}
+use Rattle.accuracy.specs.Arguments.{Asked, AskedWhole, ExpArguments}
 use Rattle.accuracy.proofs.Law.{finite-in, ranged-within, ranged-fits, fma-law, fmaf-law, small-of, roundf-near}
 use Rattle.accuracy.proofs.Inputs.{Signed, positive, negative, signed-of}
 use Rattle.accuracy.proofs.Rows.{whole-arg, part-arg}
-use Rattle.accuracy.proofs.Horner.{Stage}
-use Rattle.accuracy.proofs.ExpPolynomial.{c₀, c₁, c₂, c₃, c₄, in-range, lo-range, Stages, stages}
+use Rattle.accuracy.proofs.ExpPolynomial.{c₀, c₁, c₂, c₃, c₄, in-range, lo-range, stages}
 
 -- ---- an x that reaches the tables, by its size
 pub reaches-finite : (x : Float) → ExpReaches x → T (finite x)

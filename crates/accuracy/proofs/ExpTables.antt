@@ -1,23 +1,15 @@
 -- exp by its tables: the f64 before the narrowing is within 2 ^ -45 of the exact value, relative to itself.
-use mathlib.Core.Path.{_≡_, refl, sym, ap, subst, _∙_}
-use mathlib.Core.Bool.{false}
-use mathlib.Core.List.{[], _∷_}
-use mathlib.Core.Logic.{_⊎_, inl, inr}
-use Prim.Native.Nat.{ℕ, _*_, _^_, _≤_}
-use native.Mathlib.Nat.{le-refl, le-trans}
+use mathlib.Core.Path.{sym, subst}
+use Prim.Native.Nat.{ℕ, _≤_}
 use lib.Dec.{T, lit≤}
 use lib.IntN.{pos}
 use lib.Ieee.{Float, binary32, binary64, mul, fits}
 use lib.Ieee.Scale.{finite}
-use Rattle.std.specs.Floats.{nearestIn}
 use Rattle.exact.specs.Exact.{exp}
-use Rattle.exact.proofs.Ring.{con, _⊕_, _⊖_, _⊗_, ⊝, norm}
-use Rattle.exact.proofs.Integer.{x₀, x₁, x₂, x₃}
-use Rattle.exact.proofs.Rational.{ℚ, _+q_, _*q_, -q_, _-q_, ofℤ, qring}
-use Rattle.exact.proofs.Order.{nn, nn-add, _≤q_, q-trans, q-add, q-refl, q-mul}
-use Rattle.exact.proofs.Bound.{ofℕ, absq, nn-le, le-nn, Bound, bound-more, bound-turn, mul-right, le-plus, nn-ofℕ}
+use Rattle.exact.proofs.Rational.{ℚ, _+q_, _*q_, -q_, _-q_, ofℤ}
+use Rattle.exact.proofs.Order.{nn, _≤q_, q-trans, q-mul}
+use Rattle.exact.proofs.Bound.{ofℕ, nn-le, le-nn, Bound, bound-more, bound-turn, mul-right}
 use Rattle.exact.proofs.Compare.{dy, nn-dy}
-use Rattle.exact.proofs.Relative.{Rel}
 use Rattle.exact.proofs.Series.{S}
 use Rattle.rounding.specs.Values.{value}
 use Rattle.rounding.proofs.Value.{val, val-value}
@@ -26,11 +18,12 @@ use Rattle.curves.specs.Tables.{expM1, expM2}
 use Rattle.curves.specs.Steps.{row}
 use Rattle.curves.specs.Exp.{k, lo, wholeRow, restRow, expPoly, expTables, ExpReaches}
 use Rattle.accuracy.specs.Figures.{Right, Agree}
+use Rattle.accuracy.specs.Inner.{expWide}
 use Rattle.accuracy.proofs.Law.{fma-law}
 use Rattle.accuracy.proofs.Rows.{part-factor}
-use Rattle.accuracy.proofs.ExpPolynomial.{Stages, stages, poly-near}
+use Rattle.accuracy.proofs.ExpPolynomial.{stages, poly-near}
 use Rattle.accuracy.proofs.TableProduct.{Product, row-times-polynomial, mul-rel, halves, rel-back}
-use Rattle.accuracy.proofs.ExpSplit.{Split, split, reaches-size}
+use Rattle.accuracy.proofs.ExpSplit.{split, reaches-size}
 use Rattle.accuracy.proofs.ExpLimit.{Beside, exp-placed}
 use Rattle.accuracy.proofs.Outcome as Outcome
 use Rattle.accuracy.proofs.Outcome.{close, Near, nearer, near-positive, Placed, right, agree}
@@ -42,10 +35,6 @@ exp-product a w x fx t =
     let g = stages (a .fma) (fma-law a w) (lo a x) (s .range-lo) (s .small-lo) in
     subst (λ (u : ℚ). Product (mul binary64 (expPoly a x) (row expM1 (wholeRow (k a x)))) (row expM2 (restRow (k a x))) u) (sym (s .sum))
     (row-times-polynomial (lo a x) (expPoly a x) (s .small-lo) (poly-near (lo a x) (expPoly a x) (s .small-lo) (g .last .ball)) (wholeRow (k a x)) (restRow (k a x)) (s .whole-row) (s .rest-row))
-
--- the f64 that is narrowed
-abbrev pub expWide : Arithmetic → Float → Float
-expWide a x = mul binary64 (mul binary64 (expPoly a x) (row expM1 (wholeRow (k a x)))) (row expM2 (restRow (k a x)))
 
 numbers : (dy 1 1022 ≤q dy 1 322) × (dy 1 400 ≤q dy 1 1 *q dy 1 322) × ((dy 231 53 +q dy 1 53) *q (ofℤ (pos 1) +q dy 1 52) ≤q dy 1 45) × (dy 1 45 ≤q dy 1 38) × (ofℕ 105 ≤q ofℕ 106) × T (nn (dy 231 53))
 unfolding nn _-q_ _+q_ -q_ _*q_ ofℕ ofℤ

@@ -2,12 +2,12 @@
 use mathlib.Core.Path.{_≡_, refl, sym, ap, ap₂, subst, _∙_}
 use mathlib.Core.Bool.{Bool, true, false, not, cond, _&&_}
 use mathlib.Core.List.{[], _∷_}
-use mathlib.Core.Logic.{_⊎_, inl, inr}
-use Prim.Native.Nat.{ℕ, _+_, _*_, _^_, _≤_, _<_}
+use mathlib.Core.Logic.{inl, inr}
+use Prim.Native.Nat.{ℕ, _≤_, _<_}
 use native.Mathlib.Nat.{le-of-lt, lt-of-lt-of-le}
 use native.Mathlib.Omega.{arith}
 use lib.Dec.{T, leb, ltb, lit≤, leb→le, nleb→lt, ltb→lt, nltb→le, eqb→eq}
-use lib.IntN.{ℤ, pos}
+use lib.IntN.{ℤ}
 use lib.Ieee.{Float, nan, inf, fin, binary32, fits, isNan, ofBits, toBits}
 use lib.Ieee.Bits.{is-false}
 use lib.Ieee.Scale.{finite}
@@ -16,21 +16,19 @@ use Rattle.exact.proofs.Ring.{⊝, norm}
 use Rattle.exact.proofs.Integer.{x₀}
 use Rattle.exact.proofs.Rational.{ℚ, -q_, _-q_, _+q_, qring}
 use Rattle.exact.proofs.Order.{nn, _≤q_, q-trans, q-neg}
-use Rattle.exact.proofs.Bound.{Bound, absq, bound-more, bound-abs}
+use Rattle.exact.proofs.Bound.{Bound, bound-more}
 use Rattle.exact.proofs.Compare.{dy}
 use Rattle.rounding.specs.Values.{isZero}
-use Rattle.rounding.proofs.Fractions.{nn-frac}
-use Rattle.rounding.proofs.Distance.{abs-nn, abs-neg, abs-least}
 use Rattle.rounding.proofs.Value.{val, val-value}
 use Rattle.rounding.proofs.Patterns.{sized, sized-mono}
-use Rattle.arithmetic.specs.Arithmetic.{Arithmetic, Lawful}
+use Rattle.arithmetic.specs.Arithmetic.{Arithmetic}
 use Rattle.curves.specs.Steps.{pattern, magnitude, single}
 use Rattle.curves.specs.Exp.{ExpReaches}
 use Rattle.curves.specs.Expm1.{expm1Small, expm1Tables, expm1Value}
-use Rattle.accuracy.specs.Figures.{Right, Agree, equal, Special}
-use Rattle.accuracy.specs.Theorems.{CurveRight, CurveExact, CurveAgrees, CurveSpecial, Proved}
+use Rattle.accuracy.specs.Figures.{Right, Agree, equal}
+use Rattle.accuracy.specs.Theorems.{CurveRight, CurveAgrees, CurveSpecial, Proved}
 use Rattle.accuracy.specs.Arguments.{Expm1Reaches, Expm1Arguments}
-use Rattle.accuracy.proofs.Inputs.{Signed, positive, negative, signed-of, numberless, sized-bound, sized-size, zero-pattern}
+use Rattle.accuracy.proofs.Inputs.{positive, negative, signed-of, not-nan, sized-bound, sized-size, zero-pattern}
 use Rattle.accuracy.proofs.ExpSplit.{reaches-finite, table-arguments}
 use Rattle.accuracy.proofs.ExpLimit.{first-over, expm1-infinite}
 use Rattle.accuracy.proofs.Exp.{beside, infinity, over-top}
@@ -83,7 +81,7 @@ band x t = go (ltb (magnitude x) 0x3300_0000) (leb 0xc18a_a123 (pattern x)) (ltb
     go false false false false e f g h = computed record { number = t; past-self = nltb→le (magnitude x) 0x3300_0000 (after-not e tt); limits = inr (nltb→le (pattern x) 0x8000_0000 (after-not g tt), nleb→lt 0xc18a_a123 (pattern x) (after-not f tt)) } (ltb (magnitude x) 0x3d80_0000) refl (λ a. taken a x false false false false _ n e f (ap₂ (λ (b c : Bool). b && c) g h) refl)
 
 -- what reaches the steps of expm1 reaches those of exp
-reaches : (x : Float) → Expm1Reaches x → ExpReaches x
+pub reaches : (x : Float) → Expm1Reaches x → ExpReaches x
 reaches x r = record {
   number = r .number;
   past-one = lt-of-lt-of-le (lit≤ tt) (r .past-self);
@@ -109,7 +107,7 @@ module _ (x : Float) (w : T (fits binary32 x)) (t : T (finite x)) where
     | negative l m v ↦ subst (λ (u : ℚ). seventeen ≤q u) (sym (ap -q_ v ∙ qring (⊝ (⊝ x₀)) x₀ refl (sized (magnitude x) ∷ []))) (q-trans (ends .1) (sized-mono 0x418a_a123 (magnitude x) (omega arith)))
   ]
 
-  small-size : 0x3300_0000 ≤ magnitude x → magnitude x < 0x3d80_0000 → Small x
+  pub small-size : 0x3300_0000 ≤ magnitude x → magnitude x < 0x3d80_0000 → Small x
   small-size l h = record {
     is-finite = t;
     is-fit = w;
@@ -117,7 +115,7 @@ module _ (x : Float) (w : T (fits binary32 x)) (t : T (finite x)) where
     most = subst (λ (u : ℚ). u ≤q dy 1 4) (sym (sized-size x w t)) (q-trans (sized-mono (magnitude x) 0x3d80_0000 (le-of-lt h)) (ends .3));
   }
 
-  away : 0x3d80_0000 ≤ magnitude x → AwayFromZero (val x)
+  pub away : 0x3d80_0000 ≤ magnitude x → AwayFromZero (val x)
   away h = elim (signed-of x w t) [
     | positive l m v ↦ inl (subst (λ (u : ℚ). sixteenth ≤q u) (sym (v ∙ ap (λ (n : ℕ). sized n) (sym m))) (q-trans (ends .4) (sized-mono 0x3d80_0000 (magnitude x) h)))
     | negative l m v ↦ inr (subst (λ (u : ℚ). u ≤q -q_ sixteenth) (sym v) (q-neg (q-trans (ends .4) (sized-mono 0x3d80_0000 (magnitude x) h))))
@@ -125,7 +123,7 @@ module _ (x : Float) (w : T (fits binary32 x)) (t : T (finite x)) where
 
 -- ---- what is promised
 pub expm1-right : CurveRight expm1
-expm1-right a w x fx t = go (band x (numberless x t))
+expm1-right a w x fx t = go (band x (not-nan x t))
   where
     go : Band x → Right expm1 x (expm1Value a x)
     go (self h e) = subst (λ (y : Float). Right expm1 x y) (sym (e a)) (itself x t fx (tiny x fx t h))
@@ -135,7 +133,7 @@ expm1-right a w x fx t = go (band x (numberless x t))
     go (tables r h e) = subst (λ (y : Float). Right expm1 x y) (sym (e a)) (tables-right a w x fx (reaches x r) (beside x fx t) (away x fx t h))
 
 pub expm1-agrees : CurveAgrees expm1
-expm1-agrees a b w u x fx t = go (band x (numberless x t))
+expm1-agrees a b w u x fx t = go (band x (not-nan x t))
   where
     go : Band x → Agree expm1 x (expm1Value a x) (expm1Value b x)
     go (self h e) = equal (e a ∙ sym (e b))

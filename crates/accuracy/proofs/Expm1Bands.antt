@@ -1,7 +1,7 @@
 -- expm1 where nothing is computed: x itself near zero, the smallest values included, and -1 far below it.
 use mathlib.Core.Path.{_≡_, refl, sym, ap, subst, _∙_}
 use mathlib.Core.List.{[], _∷_}
-use Prim.Native.Nat.{ℕ, suc, _+_, _-_, _*_, _^_, _≤_}
+use Prim.Native.Nat.{ℕ, suc, _-_, _^_, _≤_}
 use native.Mathlib.Nat.{zero-lt-suc}
 use lib.Dec.{T, lit≤}
 use lib.IntN.{pos}
@@ -11,10 +11,10 @@ use std.Quotient.{cls}
 use Rattle.exact.specs.Fraction.{Fraction, times}
 use Rattle.exact.specs.Exact.{expm1}
 use Rattle.exact.proofs.Ring.{con, _⊕_, _⊖_, _⊗_, ⊝, norm}
-use Rattle.exact.proofs.Integer.{x₀, x₁, x₂, x₃}
+use Rattle.exact.proofs.Integer.{x₀, x₁, x₂}
 use Rattle.exact.proofs.Rational.{ℚ, is, _+q_, _*q_, -q_, _-q_, ofℤ, qring}
-use Rattle.exact.proofs.Order.{nn, nn-mul, _≤q_, le-by, q-refl, q-trans, q-add, q-mul}
-use Rattle.exact.proofs.Bound.{ofℕ, inv, absq, bound-abs, nn-le, le-nn, Bound, bound-nn, bound-more, bound-neg, bound-turn, mul-right}
+use Rattle.exact.proofs.Order.{nn, nn-mul, _≤q_, le-by, q-trans, q-mul}
+use Rattle.exact.proofs.Bound.{ofℕ, inv, absq, bound-abs, nn-le, le-nn, Bound, bound-nn, bound-more, bound-neg, mul-right}
 use Rattle.exact.proofs.Compare.{fr, dy, nn-dy, product-cls}
 use Rattle.exact.proofs.Series.{S, from, later}
 use Rattle.exact.proofs.Compute.{run, test, held}

@@ -4,9 +4,7 @@ use mathlib.Core.Bool.{Bool, true, false, not}
 use mathlib.Core.List.{[], _∷_}
 use mathlib.Core.Logic.{_⊎_, inl, inr}
 use Prim.Native.Nat.{ℕ, _^_, _≤_}
-use native.Mathlib.Nat.{zero-lt-suc, le-refl}
 use lib.Dec.{T, lit≤}
-use lib.Pow.{pow-pos}
 use lib.IntN.{pos}
 use lib.Ieee.{Float, binary32, binary64, mul, fits, ofBits}
 use lib.Ieee.Fits.{mul-fits}
@@ -17,7 +15,7 @@ use Rattle.exact.proofs.Ring.{con, _⊕_, _⊖_, _⊗_, ⊝, norm}
 use Rattle.exact.proofs.Integer.{x₀, x₁, x₂, x₃, x₄, x₅, x₆, x₇, x₈}
 use Rattle.exact.proofs.Rational.{ℚ, is, _+q_, _*q_, -q_, _-q_, ofℤ, qring}
 use Rattle.exact.proofs.Order.{nn, nn-add, nn-mul, nn-total, _≤q_, le-by, q-refl, q-trans, q-add, q-neg, q-mul}
-use Rattle.exact.proofs.Bound.{ofℕ, inv, nn-inv, absq, bound-abs, nn-le, le-nn, Bound, bound-nn, bound-more, bound-add, bound-neg, bound-mul, bound-self, bound-turn, mul-right}
+use Rattle.exact.proofs.Bound.{ofℕ, inv, nn-inv, absq, bound-abs, nn-le, le-nn, Bound, bound-nn, bound-more, bound-add, bound-neg, bound-mul, bound-self, mul-right}
 use Rattle.exact.proofs.Compare.{dy, nn-dy}
 use Rattle.exact.proofs.Relative.{Rel}
 use Rattle.exact.proofs.Series.{term, S, R, from, later, tail}

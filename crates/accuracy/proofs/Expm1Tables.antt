@@ -1,9 +1,8 @@
 -- expm1 by its tables: the f64 before the narrowing is within 125 * 2 ^ -48 of the exact value, relative to its own size.
-use mathlib.Core.Path.{_≡_, refl, sym, ap, subst, _∙_}
-use mathlib.Core.Bool.{true, false}
+use mathlib.Core.Path.{_≡_, refl, sym, subst, _∙_}
 use mathlib.Core.List.{[], _∷_}
 use mathlib.Core.Logic.{_⊎_, inl, inr}
-use Prim.Native.Nat.{ℕ, _*_, _^_, _≤_}
+use Prim.Native.Nat.{ℕ, _^_, _≤_}
 use native.Mathlib.Nat.{zero-lt-suc, le-refl}
 use lib.Dec.{T, lit≤}
 use lib.Pow.{pow-pos}
@@ -17,17 +16,16 @@ use Rattle.exact.proofs.Ring.{con, _⊕_, _⊖_, _⊗_, ⊝, norm}
 use Rattle.exact.proofs.Integer.{x₀, x₁, x₂, x₃, x₄, x₅}
 use Rattle.exact.proofs.Rational.{ℚ, is, _+q_, _*q_, -q_, _-q_, ofℤ, qring}
 use Rattle.exact.proofs.Order.{nn, nn-add, nn-mul, _≤q_, le-by, q-refl, q-trans, q-add, q-neg, q-mul, q-total}
-use Rattle.exact.proofs.Bound.{ofℕ, absq, inv, nn-ofℕ, nn-le, le-nn, Bound, bound-more, bound-add, bound-neg, bound-turn, bound-self, mul-right}
+use Rattle.exact.proofs.Bound.{ofℕ, absq, inv, nn-le, le-nn, Bound, bound-more, bound-add, bound-neg, bound-turn, bound-self, mul-right}
 use Rattle.exact.proofs.Compare.{fr, dy, nn-dy}
-use Rattle.exact.proofs.Relative.{Rel}
 use Rattle.exact.proofs.Series.{term, S, R, from, later}
 use Rattle.exact.proofs.Compute.{run, test, held}
 use Rattle.exact.proofs.Growth.{S-mono, R-mono}
 use Rattle.exact.proofs.Negative.{S-below}
-use Rattle.rounding.specs.Values.{value, sign}
+use Rattle.rounding.specs.Values.{value}
 use Rattle.rounding.specs.Ranges.{Ranged, Permitted}
 use Rattle.rounding.proofs.Value.{val, val-value}
-use Rattle.rounding.proofs.Distance.{abs-nn, abs-neg}
+use Rattle.rounding.proofs.Distance.{abs-neg}
 use Rattle.rounding.proofs.Error.{eps, tiny, nn-eps}
 use Rattle.rounding.proofs.MultiplyAdd.{slip₂, fma-err}
 use Rattle.rounding.proofs.Range.{ranged-above}
@@ -38,13 +36,14 @@ use Rattle.curves.specs.Steps.{double, row}
 use Rattle.curves.specs.Exp.{k, wholeRow, restRow, expPoly, ExpReaches}
 use Rattle.curves.specs.Expm1.{expm1Tables}
 use Rattle.accuracy.specs.Figures.{Right, Agree}
+use Rattle.accuracy.specs.Inner.{expm1Wide}
 use Rattle.accuracy.specs.Arguments.{LastArguments}
 use Rattle.accuracy.proofs.Law.{fma-law}
 use Rattle.accuracy.proofs.Rows.{part-factor}
 use Rattle.accuracy.proofs.TableProduct.{Product}
-use Rattle.accuracy.proofs.ExpSplit.{Split, split, reaches-size, asked}
+use Rattle.accuracy.proofs.ExpSplit.{split, reaches-size, asked}
 use Rattle.accuracy.proofs.ExpTables.{exp-product}
-use Rattle.accuracy.proofs.ExpLimit.{last-under, first-over, Beside, sum-bottom, expm1-under, expm1-placed}
+use Rattle.accuracy.proofs.ExpLimit.{last-under, Beside, sum-bottom, expm1-under, expm1-placed}
 use Rattle.accuracy.proofs.Outcome as Outcome
 use Rattle.accuracy.proofs.Outcome.{close, Near, nearer, right, agree, right-near, agree-near, minus-sign}
 
@@ -138,7 +137,7 @@ unfolding norm _-q_
 slip-above q nq =
     let e = eps binary64 in
     let t = tiny binary64 in
-    le-by ((f -q e -q e -q e *q e) *q q +q (f -q e -q t -q t -q t *q e)) (nn-add _ _ (nn-mul (f -q e -q e -q e *q e) q (fma-numbers .2) nq) (fma-numbers .3))
+    le-by {a = slip₂ binary64 q (q +q one)} ((f -q e -q e -q e *q e) *q q +q (f -q e -q t -q t -q t *q e)) (nn-add _ _ (nn-mul (f -q e -q e -q e *q e) q (fma-numbers .2) nq) (fma-numbers .3))
     (qring (x₀ ⊗ (x₁ ⊕ con (pos 1)) ⊖ (x₁ ⊗ x₂ ⊕ x₃ ⊕ ((x₁ ⊕ con (pos 1) ⊕ (x₁ ⊗ x₂ ⊕ x₃)) ⊗ x₂ ⊕ x₃))) ((x₀ ⊖ x₂ ⊖ x₂ ⊖ x₂ ⊗ x₂) ⊗ x₁ ⊕ (x₀ ⊖ x₂ ⊖ x₃ ⊖ x₃ ⊖ x₃ ⊗ x₂)) refl (f ∷ q ∷ e ∷ t ∷ []))
 
 less-one : (z₁ t₂ z : Float) → T (finite z₁) → T (finite t₂) → Permitted binary64 z₁ t₂ minus-one z → T (nn (val z₁ *q val t₂)) → val z₁ *q val t₂ ≤q ofℕ (2 ^ 323) → T (finite z) × Bound (val z -q (val z₁ *q val t₂ -q one)) (f *q (val z₁ *q val t₂ +q one))
@@ -204,10 +203,7 @@ away-low A q most h b = elim (q-total low q) [
       absurd (no-gap (ofℕ 1 +q dy 1 20) (q-trans (away-numbers .8) (q-trans (mul-right bottom (away-numbers .2) (q-trans (q-mul (one -q m) (away-numbers .7) g) v)) e)))
 ]
 
--- ---- the f64 that is narrowed
-abbrev pub expm1Wide : Arithmetic → Float → Float
-expm1Wide a x = a .fma (mul binary64 (expPoly a x) (row expM1 (wholeRow (k a x)))) (row expM2 (restRow (k a x))) (neg (double 0x3ff0_0000_0000_0000))
-
+-- ---- the f64 that is narrowed: its arguments
 range-numbers : (dy 1 400 ≤q dy 1 162) × (ofℕ (2 ^ 163) ≤q ofℕ (2 ^ 400)) × (dy 1 400 ≤q dy 1 160) × (ofℕ (2 ^ 160) ≤q ofℕ (2 ^ 400)) × (ofℕ 105 ≤q ofℕ 106) × (near-by ≤q close) × (-q_ sixteenth ≤q last-under)
 unfolding nn _-q_ _+q_ -q_ ofℕ ofℤ
 range-numbers = (record { le = tt }, record { le = tt }, record { le = tt }, record { le = tt }, record { le = tt }, record { le = tt }, record { le = tt })

@@ -1,10 +1,10 @@
 -- Horner's scheme under the law of an arithmetic: each step stays in the law's range, and has its error.
-use Prim.Native.Nat.{ℕ, _^_, _<_}
+use Prim.Native.Nat.{_^_}
 use lib.Dec.{T, lit≤}
 use lib.Ieee.{Float, binary32, binary64, fits}
 use lib.Ieee.Fits.{fits-widens}
 use lib.Ieee.Scale.{finite}
-use Rattle.exact.proofs.Rational.{ℚ, _+q_, _*q_, -q_, _-q_}
+use Rattle.exact.proofs.Rational.{ℚ, _+q_, _*q_}
 use Rattle.exact.proofs.Order.{_≤q_}
 use Rattle.exact.proofs.Bound.{ofℕ, Bound, bound-more, bound-mul}
 use Rattle.rounding.specs.Ranges.{Ranged, Permitted}

@@ -2,14 +2,14 @@
 use mathlib.Core.Path.{_≡_, refl, sym, ap, subst, _∙_}
 use mathlib.Core.Bool.{Bool, true, false, not, cond}
 use mathlib.Core.Logic.{_⊎_, inl, inr}
-use Prim.Native.Nat.{ℕ, zero, suc, _+_, _-_, _*_, _/_, _%_, _^_, _≤_, _<_}
+use Prim.Native.Nat.{ℕ, _+_, _-_, _*_, _/_, _%_, _^_, _≤_, _<_}
 use native.Mathlib.Nat.{eq-zero-or-pos}
 use native.Mathlib.Omega.{arith}
 use lib.Dec.{T, leb, eqb}
 use lib.Bits.{bitAnd}
 use lib.Pow.{pow-pos}
 use lib.IntN.{ℤ}
-use lib.Ieee.{Float, nan, inf, fin, Format, binary32, fits, isNan, ofBits, ofFields, toBits, up, down, size}
+use lib.Ieee.{Float, nan, inf, fin, binary32, fits, isNan, ofBits, ofFields, up, down, size}
 use lib.Ieee.Bits.{ofBits-toBits, toBits-lt}
 use lib.Ieee.Scale.{finite}
 use Rattle.std.proofs.shelf.Bits.{and-mask}
@@ -72,11 +72,11 @@ signed-of x w t =
     split p l h = omega arith
 
 -- ---- a finite f32 is no NaN, and is of the size that its pattern says
-pub numberless : (x : Float) → T (finite x) → T (not (isNan x))
+pub not-nan : (x : Float) → T (finite x) → T (not (isNan x))
 unfolding isNan
-numberless nan t = absurd t
-numberless (inf s) t = absurd t
-numberless (fin s m e) t = tt
+not-nan nan t = absurd t
+not-nan (inf s) t = absurd t
+not-nan (fin s m e) t = tt
 
 pub decide : (b : Bool) → T b ⊎ T (not b)
 decide true = inl tt

@@ -1,8 +1,8 @@
 -- From the law of an arithmetic to what the proofs use: a multiply-add on its range, and a rounding to a whole number below 2 ^ 22.
 use mathlib.Core.Path.{_≡_, refl, sym, ap, ap₂, subst, _∙_}
 use mathlib.Core.List.{[], _∷_}
-use mathlib.Core.Logic.{_⊎_, inl, inr}
-use Prim.Native.Nat.{ℕ, suc, _*_, _^_, _≤_, _<_}
+use mathlib.Core.Logic.{inl, inr}
+use Prim.Native.Nat.{ℕ, suc, _*_, _^_, _≤_}
 use native.Mathlib.Nat.{zero-lt-suc}
 use native.Mathlib.Omega.{arith}
 use lib.Dec.{T}
@@ -12,10 +12,10 @@ use lib.Ieee.Fits.{down-pos}
 use lib.Ieee.Scale.{finite}
 use std.Quotient.{cls}
 use Rattle.std.specs.Floats as Std
-use Rattle.exact.specs.Fraction.{Fraction, Same, whole, integer, times, apart, _≼_}
-use Rattle.exact.proofs.Ring.{con, _⊕_, _⊖_, _⊗_, norm}
+use Rattle.exact.specs.Fraction.{whole, integer, times, apart, _≼_}
+use Rattle.exact.proofs.Ring.{con, _⊗_, norm}
 use Rattle.exact.proofs.Integer.{x₀, x₁}
-use Rattle.exact.proofs.Rational.{ℚ, is, _+q_, _*q_, -q_, _-q_, ofℤ, qring}
+use Rattle.exact.proofs.Rational.{ℚ, is, _*q_, -q_, _-q_, ofℤ, qring}
 use Rattle.exact.proofs.Order.{nn, _≤q_, q-mul}
 use Rattle.exact.proofs.Bound.{ofℕ, absq, bound-abs, Bound, bound-more}
 use Rattle.rounding.specs.Values.{value}
@@ -25,7 +25,7 @@ use Rattle.rounding.proofs.Value.{val, val-value}
 use Rattle.rounding.proofs.Distance.{at-most-out, times-cls, whole-cls, apart-cls}
 use Rattle.rounding.proofs.Range.{FmaLaw}
 use Rattle.rounding.proofs.WholeNumber.{NearWhole}
-use Rattle.arithmetic.specs.Arithmetic.{Arithmetic, Lawful, MulAdd, OneOrTwo, Nearest, RoundsAway, within, small}
+use Rattle.arithmetic.specs.Arithmetic.{Arithmetic, Lawful, MulAdd, OneOrTwo, RoundsAway, within, small}
 use Rattle.arithmetic.proofs.Digits.{within-zero, within-range, small-in}
 
 -- ---- a float is finite in the one sense and in the other

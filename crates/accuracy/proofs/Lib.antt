@@ -14,3 +14,4 @@ pub mod Expm1Tables
 pub mod Expm1Polynomial
 pub mod Expm1Bands
 pub mod Expm1
+pub mod Inner

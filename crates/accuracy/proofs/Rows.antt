@@ -1,29 +1,26 @@
 -- The rows of exp's two tables: each is an f64 above 0, between 2 ^ -160 and 2 ^ 160, and the series at m, or at i / 128, is within 2 ^ -52 of it, relative to it.
-use mathlib.Core.Path.{_≡_, refl, sym, ap, ap₂, _∙_, subst}
+use mathlib.Core.Path.{_≡_, refl, sym, ap, _∙_, subst}
 use mathlib.Core.Bool.{Bool, false}
-use mathlib.Core.List.{List}
-use mathlib.Core.Logic.{_⊎_, inl, inr}
 use Prim.Native.Nat.{ℕ, suc, _+_, _-_, _*_, _/_, _%_, _^_, _≤_, _<_}
 use native.Mathlib.Nat.{zero-lt-suc, le-trans, mul-le-mul, mul-le-mul-right, pow-suc, mod-lt}
 use native.Mathlib.Omega.{arith}
 use lib.Dec.{T, leb, lit≤, leb→le, le→leb, not-T}
 use lib.Pow.{pow-pos, pow-mono}
-use lib.IntN.{ℤ, pos, _-ℤ_, natAbs}
+use lib.IntN.{pos, _-ℤ_, natAbs}
 use lib.ListN.{length, getD}
 use lib.Ieee.{Float, binary64, ofBits, fits}
 use lib.Ieee.Exact.{HasValue}
 use lib.Ieee.Bits.{ofBits-fits, is-false}
 use lib.Ieee.Scale.{finite}
 use borrow.Author.Differences.{ints}
-use Rattle.exact.proofs.Rational.{ℚ, is, _*q_, -q_, _-q_, ofℤ}
-use Rattle.exact.proofs.Order.{nn, _≤q_, q-trans}
-use Rattle.exact.proofs.Bound.{ofℕ, nn-le, le-nn, Bound}
-use Rattle.exact.proofs.Compare.{fr, dy, nn-dy, leq-in}
+use Rattle.exact.proofs.Rational.{ℚ, is, ofℤ}
+use Rattle.exact.proofs.Order.{_≤q_}
+use Rattle.exact.proofs.Bound.{ofℕ}
+use Rattle.exact.proofs.Compare.{fr, dy, leq-in}
 use Rattle.exact.proofs.Relative.{Rel}
 use Rattle.exact.proofs.Series.{S}
 use Rattle.exact.proofs.Compute.{run, test}
 use Rattle.exact.proofs.Table.{both, both-left, both-right, every, row, exp-test, exp-row, unit-rel}
-use Rattle.rounding.specs.Ranges.{Ranged}
 use Rattle.rounding.proofs.Value.{val, finite-is, value-is}
 use Rattle.rounding.proofs.Patterns.{pattern-normal}
 use Rattle.curves.specs.Tables.{expM1, expM2}

@@ -1,32 +1,31 @@
 -- The polynomial times a row of either table: the series at the sum of the three arguments is within 231 * 2 ^ -53 of the product, relative to it.
-use mathlib.Core.Path.{_≡_, refl, sym, ap, subst, _∙_}
+use mathlib.Core.Path.{refl, subst}
 use mathlib.Core.List.{[], _∷_}
 use Prim.Native.Nat.{ℕ, _^_, _*_, _≤_, _<_}
-use native.Mathlib.Nat.{zero-lt-suc, le-trans}
+use native.Mathlib.Nat.{le-trans}
 use native.Mathlib.Omega.{arith}
 use lib.Dec.{T, lit≤, le→leb}
 use lib.IntN.{pos, negsuc, _-ℤ_, _*ℤ_}
 use lib.Signed.{leZ}
 use lib.ListN.{getD}
-use lib.Ieee.{Float, binary64, mul, ofBits, fits}
-use lib.Ieee.Fits.{mul-fits}
+use lib.Ieee.{Float, binary64, mul, ofBits}
 use lib.Ieee.Scale.{finite}
 use borrow.Author.Differences as D
 use borrow.Author.Differences.{ints}
 use Rattle.exact.proofs.Ring.{con, _⊕_, _⊖_, _⊗_, ⊝, norm}
 use Rattle.exact.proofs.Integer.{x₀, x₁, x₂, x₃, x₄}
 use Rattle.exact.proofs.Rational.{ℚ, _+q_, _*q_, -q_, _-q_, ofℤ, qring}
-use Rattle.exact.proofs.Order.{nn, nn-add, nn-mul, _≤q_, le-by, q-refl, q-trans, q-add, q-mul}
+use Rattle.exact.proofs.Order.{nn, nn-add, nn-mul, _≤q_, le-by, q-trans, q-add, q-mul}
 use Rattle.exact.proofs.Bound.{ofℕ, nn-ofℕ, ofℕ-mono, inv, nn-le, le-nn, Bound, bound-more, bound-add, bound-turn, bound-via, mul-right, mul-mono}
 use Rattle.exact.proofs.Compare.{dy, nn-dy, leq-in}
 use Rattle.exact.proofs.Relative.{Rel, rel-more, rel-mul}
 use Rattle.exact.proofs.Series.{term, S, R, later}
 use Rattle.exact.proofs.Product.{mult₃}
 use Rattle.exact.proofs.Vanish.{R-later}
-use Rattle.rounding.proofs.Value.{val, Rounds, mul-rounds}
+use Rattle.rounding.proofs.Value.{val, mul-rounds}
 use Rattle.rounding.proofs.Relative.{rel-round}
 use Rattle.curves.specs.Tables.{expM1, expM2}
-use Rattle.accuracy.proofs.Rows.{whole-arg, part-arg, Factor, whole-factor, part-factor}
+use Rattle.accuracy.proofs.Rows.{whole-arg, part-arg, whole-factor, part-factor}
 use Rattle.accuracy.proofs.ExpPolynomial.{NearSeries}
 
 -- ---- one rounding, relative to the number and to what it gives

@@ -1,6 +1,6 @@
-use Rattle.accuracy.proofs.Exp.{exp-proved}
-use Rattle.accuracy.proofs.ExpSplit.{table-arguments}
+-- Proved in `Exp`.
 use Rattle.accuracy.proofs.exp_is_accurate.Needs as need
+use Rattle.accuracy.proofs.Exp.{exp-proved}
 
 pub returns : need.returns
-returns c = record { accurate = exp-proved; arguments = table-arguments }
+returns c = exp-proved
