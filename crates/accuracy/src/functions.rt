@@ -4,10 +4,14 @@ ghost use lib.Dec.{T};
 ghost use lib.Ieee.Scale.{finite};
 ghost use Rattle.exact.specs.Exact.{exp, expm1};
 ghost use Rattle.curves.specs.Exp.{expValue};
+ghost use Rattle.curves.specs.Exp2.{exp2Value};
+ghost use Rattle.curves.specs.Exp10.{exp10Value};
 ghost use Rattle.curves.specs.Expm1.{expm1Value};
 ghost use Rattle.accuracy.specs.Figures.{Right, Exactly, Special};
 use arithmetic::ExpfBackend;
 use curves::Curve;
+use curves::exp2f::Exp2Curve;
+use curves::exp10f::Exp10Curve;
 use curves::expf::ExpCurve;
 use curves::expm1f::Expm1Curve;
 
@@ -19,6 +23,20 @@ pub fn f_expf<B: ExpfBackend>(arith: &B, x: f32) -> f32
     ensures special { λ r. ⌜ Special exp x r ⌝ }
 {
     ExpCurve::value(arith, x)
+}
+
+// 2^x on f32.
+pub fn f_exp2f<B: ExpfBackend>(arith: &B, x: f32) -> f32
+    ensures { λ r. ⌜ r ≡ exp2Value (B·ExpfBackend .meaning (now (arith .entry))) x ⌝ }
+{
+    Exp2Curve::value(arith, x)
+}
+
+// 10^x on f32.
+pub fn f_exp10f<B: ExpfBackend>(arith: &B, x: f32) -> f32
+    ensures { λ r. ⌜ r ≡ exp10Value (B·ExpfBackend .meaning (now (arith .entry))) x ⌝ }
+{
+    Exp10Curve::value(arith, x)
 }
 
 // e^x - 1 on f32.

@@ -7,103 +7,98 @@ ghost use Rattle.curves.specs.Exp2.{exp2Value};
 ghost use Rattle.curves.specs.Exp10.{exp10Value};
 ghost use Rattle.curves.specs.Expm1.{expm1Value};
 ghost use Rattle.export.specs.Answers.{answer, Answered, curveOf, arithmeticOf};
+use accuracy::functions::f_exp2f;
+use accuracy::functions::f_exp10f;
+use accuracy::functions::f_expf;
+use accuracy::functions::f_expm1f;
 use arithmetic::ExpfBackend;
 use arithmetic::FmaBackend;
 use arithmetic::FusedBackend;
 use arithmetic::GenericBackend;
 use arithmetic::GenericExpfBackend;
-use curves::Curve;
-use curves::exp2f::Exp2;
-use curves::exp2f::Exp2Curve;
-use curves::exp10f::Exp10;
-use curves::exp10f::Exp10Curve;
-use curves::expf::Exp;
-use curves::expf::ExpCurve;
-use curves::expm1f::Expm1;
-use curves::expm1f::Expm1Curve;
 use std::num::f32_from_bits_with_nan;
 use std::num::f32_to_bits_with_nan;
 
-fn at_pattern<C: Curve, B: ExpfBackend>(arith: &B, bits: u32) -> u32
-    ensures { λ r. ⌜ r ≡ answer (C·Curve .curve (B·ExpfBackend .meaning (now (arith .entry)))) bits ⌝ }
+// The curve of a number: 0 exp, 1 exp2, 2 exp10, and expm1.
+fn figure<B: ExpfBackend>(arith: &B, curve: u32, x: f32) -> f32
+    ensures { λ r. ⌜ r ≡ curveOf curve (B·ExpfBackend .meaning (now (arith .entry))) x ⌝ }
 {
-    f32_to_bits_with_nan(C::value(arith, f32_from_bits_with_nan(bits)))
+    match curve {
+        0 => f_expf(arith, x),
+        1 => f_exp2f(arith, x),
+        2 => f_exp10f(arith, x),
+        _ => f_expm1f(arith, x),
+    }
+}
+
+fn at_pattern<B: ExpfBackend>(arith: &B, curve: u32, bits: u32) -> u32
+    ensures { λ r. ⌜ r ≡ answer (curveOf curve (B·ExpfBackend .meaning (now (arith .entry)))) bits ⌝ }
+{
+    f32_to_bits_with_nan(figure(arith, curve, f32_from_bits_with_nan(bits)))
 }
 
 #[unsafe(no_mangle)]
 pub extern "C" fn vastulm_exp_two_step(bits: u32) -> u32
     ensures { λ r. ⌜ r ≡ answer (expValue generic) bits ⌝ }
 {
-    at_pattern::<Exp, GenericExpfBackend>(&GenericExpfBackend {}, bits)
+    at_pattern(&GenericExpfBackend {}, 0, bits)
 }
 
 #[unsafe(no_mangle)]
 pub extern "C" fn vastulm_exp_fused(bits: u32) -> u32
     ensures { λ r. ⌜ r ≡ answer (expValue fusing) bits ⌝ }
 {
-    at_pattern::<Exp, FmaBackend>(&FmaBackend {}, bits)
+    at_pattern(&FmaBackend {}, 0, bits)
 }
 
 #[unsafe(no_mangle)]
 pub extern "C" fn vastulm_exp2_two_step(bits: u32) -> u32
     ensures { λ r. ⌜ r ≡ answer (exp2Value generic) bits ⌝ }
 {
-    at_pattern::<Exp2, GenericExpfBackend>(&GenericExpfBackend {}, bits)
+    at_pattern(&GenericExpfBackend {}, 1, bits)
 }
 
 #[unsafe(no_mangle)]
 pub extern "C" fn vastulm_exp2_fused(bits: u32) -> u32
     ensures { λ r. ⌜ r ≡ answer (exp2Value fusing) bits ⌝ }
 {
-    at_pattern::<Exp2, FmaBackend>(&FmaBackend {}, bits)
+    at_pattern(&FmaBackend {}, 1, bits)
 }
 
 #[unsafe(no_mangle)]
 pub extern "C" fn vastulm_exp10_two_step(bits: u32) -> u32
     ensures { λ r. ⌜ r ≡ answer (exp10Value generic) bits ⌝ }
 {
-    at_pattern::<Exp10, GenericExpfBackend>(&GenericExpfBackend {}, bits)
+    at_pattern(&GenericExpfBackend {}, 2, bits)
 }
 
 #[unsafe(no_mangle)]
 pub extern "C" fn vastulm_exp10_fused(bits: u32) -> u32
     ensures { λ r. ⌜ r ≡ answer (exp10Value fusing) bits ⌝ }
 {
-    at_pattern::<Exp10, FmaBackend>(&FmaBackend {}, bits)
+    at_pattern(&FmaBackend {}, 2, bits)
 }
 
 #[unsafe(no_mangle)]
 pub extern "C" fn vastulm_expm1_two_step(bits: u32) -> u32
     ensures { λ r. ⌜ r ≡ answer (expm1Value generic) bits ⌝ }
 {
-    at_pattern::<Expm1, GenericExpfBackend>(&GenericExpfBackend {}, bits)
+    at_pattern(&GenericExpfBackend {}, 3, bits)
 }
 
 #[unsafe(no_mangle)]
 pub extern "C" fn vastulm_expm1_fused(bits: u32) -> u32
     ensures { λ r. ⌜ r ≡ answer (expm1Value fusing) bits ⌝ }
 {
-    at_pattern::<Expm1, FmaBackend>(&FmaBackend {}, bits)
+    at_pattern(&FmaBackend {}, 3, bits)
 }
 
 // Replaces every pattern by its answer.
-fn fill<C: Curve, B: ExpfBackend>(arith: &B, patterns: &mut [u32])
-    ensures { λ _. ⌜ Answered (C·Curve .curve (B·ExpfBackend .meaning (now (arith .entry)))) (now (patterns .entry)) (now (patterns .exit)) ⌝ }
-{
-    for p in patterns.iter_mut() {
-        *p = at_pattern::<C, B>(arith, *p);
-    }
-}
-
-// The same by the number of the curve.
-fn fill_by<B: ExpfBackend>(arith: &B, curve: u32, patterns: &mut [u32])
+fn fill<B: ExpfBackend>(arith: &B, curve: u32, patterns: &mut [u32])
     ensures { λ _. ⌜ Answered (curveOf curve (B·ExpfBackend .meaning (now (arith .entry)))) (now (patterns .entry)) (now (patterns .exit)) ⌝ }
 {
-    match curve {
-        0 => fill::<Exp, B>(arith, patterns),
-        1 => fill::<Exp2, B>(arith, patterns),
-        2 => fill::<Exp10, B>(arith, patterns),
-        _ => fill::<Expm1, B>(arith, patterns),
+    for p in patterns.iter_mut() {
+        *p = at_pattern(arith, curve, *p);
     }
 }
 
@@ -122,9 +117,9 @@ pub extern "C" fn vastulm_fill(curve: u32, arithmetic: u32, patterns: &mut [u32]
         return 2;
     }
     if arithmetic == 0 {
-        fill_by(&GenericExpfBackend {}, curve, patterns);
+        fill(&GenericExpfBackend {}, curve, patterns);
     } else {
-        fill_by(&FmaBackend {}, curve, patterns);
+        fill(&FmaBackend {}, curve, patterns);
     }
     0
 }

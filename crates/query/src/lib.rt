@@ -1,16 +1,15 @@
 // A question in words: a curve, an arithmetic and an input, as `exp two-step 0x3f800000` or `exp2 fused 1.5`.
 ghost use mathlib.Core.Path.{_≡_};
 ghost use Rattle.query.specs.Meaning.{curveOf, arithmeticOf, curveWord, arithmeticWord, Spelt};
+use accuracy::functions::f_exp2f;
+use accuracy::functions::f_exp10f;
+use accuracy::functions::f_expf;
+use accuracy::functions::f_expm1f;
 use arithmetic::ExpfBackend;
 use arithmetic::FmaBackend;
 use arithmetic::FusedBackend;
 use arithmetic::GenericBackend;
 use arithmetic::GenericExpfBackend;
-use curves::Curve;
-use curves::exp2f::Exp2Curve;
-use curves::exp10f::Exp10Curve;
-use curves::expf::ExpCurve;
-use curves::expm1f::Expm1Curve;
 use std::fmt;
 use std::num::f32_from_bits_with_nan;
 
@@ -41,10 +40,10 @@ impl CurveName {
         ensures { λ r. ⌜ r ≡ curveOf self (B·ExpfBackend .meaning (now (arith .entry))) x ⌝ }
     {
         match self {
-            CurveName::Exp => ExpCurve::value(arith, x),
-            CurveName::Exp2 => Exp2Curve::value(arith, x),
-            CurveName::Exp10 => Exp10Curve::value(arith, x),
-            CurveName::Expm1 => Expm1Curve::value(arith, x),
+            CurveName::Exp => f_expf(arith, x),
+            CurveName::Exp2 => f_exp2f(arith, x),
+            CurveName::Exp10 => f_exp10f(arith, x),
+            CurveName::Expm1 => f_expm1f(arith, x),
         }
     }
 }
