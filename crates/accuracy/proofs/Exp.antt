@@ -25,7 +25,7 @@ use Rattle.curves.specs.Steps.{pattern, magnitude, single}
 use Rattle.curves.specs.Exp.{expTables, expValue, ExpReaches}
 use Rattle.accuracy.specs.Figures.{Right, Agree, equal}
 use Rattle.accuracy.specs.Theorems.{CurveRight, CurveAgrees, CurveSpecial, Proved}
-use Rattle.accuracy.proofs.Inputs.{positive, negative, signed-of, not-nan, decide, sized-bound, zero-pattern}
+use Rattle.accuracy.proofs.Inputs.{positive, negative, signed-of, numberless, decide, sized-bound, zero-pattern}
 use Rattle.accuracy.proofs.ExpLimit.{last-under, first-over, Beside, exp-infinite}
 use Rattle.accuracy.proofs.ExpBands.{near-one, zero-from, lowest}
 use Rattle.accuracy.proofs.ExpTables.{tables-right, tables-agree}
@@ -109,7 +109,7 @@ infinity = refl
 
 -- ---- what is promised
 pub exp-right : CurveRight exp
-exp-right a w x fx t = go (band x (not-nan x t))
+exp-right a w x fx t = go (band x (numberless x t))
   where
     go : Band x → Right exp x (expValue a x)
     go (one h e) = subst (λ (y : Float). Right exp x y) (sym (e a)) (near-one x (small x fx t h))
@@ -118,7 +118,7 @@ exp-right a w x fx t = go (band x (not-nan x t))
     go (tables r e) = subst (λ (y : Float). Right exp x y) (sym (e a)) (tables-right a w x fx r (beside x fx t))
 
 pub exp-agrees : CurveAgrees exp
-exp-agrees a b w u x fx t = go (band x (not-nan x t))
+exp-agrees a b w u x fx t = go (band x (numberless x t))
   where
     go : Band x → Agree exp x (expValue a x) (expValue b x)
     go (one h e) = equal (e a ∙ sym (e b))

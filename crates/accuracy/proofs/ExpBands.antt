@@ -1,7 +1,7 @@
 -- exp where no table is read: 1 near zero, and +0 far below it.
 use mathlib.Core.Path.{_≡_, refl, sym, ap, subst, _∙_}
 use mathlib.Core.List.{[], _∷_}
-use Prim.Native.Nat.{ℕ, suc, _-_, _^_, _≤_}
+use Prim.Native.Nat.{ℕ, suc, _+_, _-_, _*_, _^_, _≤_}
 use native.Mathlib.Nat.{zero-lt-suc}
 use lib.Dec.{T, lit≤}
 use lib.Pow.{pow-pos}
@@ -53,27 +53,27 @@ near-one x b = right-finite exp x (single 0x3f80_0000) (one-numbers .4) record {
     top : (n : ℕ) → 1 ≤ n → S (cls (value x)) n ≤q ofℕ 1 +q dy 1 25 +q dy 1 25 *q dy 1 25
     top n h = q-trans (bound-above (S (cls (value x)) n) (ofℕ 1 +q cls (value x)) (dy 1 25 *q dy 1 25) (two n h)) (q-add (q-add (q-refl (ofℕ 1)) (bt .hi)) (q-refl (dy 1 25 *q dy 1 25)))
 
--- ---- +0 for x from -0xcff1b5 * 2 ^ -17 down
+-- ---- +0 for x from -0xcff1b5 * 2 ^ -17 down: e ^ x is at most 2 ^ -150 there, half a unit
 abbrev pub zero-from : ℚ
 zero-from = fr (pos 0xcff1b5) (2 ^ 17) (pow-pos 17)
 
-unfoldable zero-test : T (test 1 (2 ^ 150) (2 ^ 137) (run (pos 0xcff1b5) (2 ^ 17) 300))
+unfoldable zero-test : T (test 1 (2 ^ 150 + 7 * 2 ^ 130) (2 ^ 130) (run (pos 0xcff1b5) (2 ^ 17) 300))
 unfolding test run
 zero-test = tt
 
 abbrev zero-least : ℕ
-zero-least = 2 ^ 150 - 2 ^ 137 - 1
+zero-least = 2 ^ 150 + 6 * 2 ^ 130 - 1
 
 abbrev zero-bound : ℚ
-zero-bound = (ofℕ 1 +q inv (2 ^ 12)) *q inv zero-least
+zero-bound = (ofℕ 1 +q inv (2 ^ 19)) *q inv zero-least
 
-zero-numbers : (ofℕ (suc zero-least) ≤q fr (pos (2 ^ 150)) 1 (zero-lt-suc 0) -q fr (pos (2 ^ 137)) 1 (zero-lt-suc 0)) × (zero-bound ≤q cls (times halfAndPart (unit binary32 (single 0)))) × (zero-bound ≤q ofℕ (2 ^ 128 - 2 ^ 103 - 2 ^ 104)) × T (nn zero-from) × (val (single 0) ≡ ofℤ (pos 0)) × T (finite (single 0))
+zero-numbers : (ofℕ (suc zero-least) ≤q fr (pos (2 ^ 150 + 7 * 2 ^ 130)) 1 (zero-lt-suc 0) -q fr (pos (2 ^ 130)) 1 (zero-lt-suc 0)) × (zero-bound ≤q dy 1 150) × (dy 1 150 ≤q cls (times halfAndPart (unit binary32 (single 0)))) × (zero-bound ≤q ofℕ (2 ^ 128 - 2 ^ 103 - 2 ^ 104)) × T (nn zero-from) × (val (single 0) ≡ ofℤ (pos 0)) × T (finite (single 0))
 unfolding nn _-q_ _+q_ -q_ _*q_ ofℕ ofℤ inv val ofBits unit size
-zero-numbers = (record { le = tt }, record { le = tt }, record { le = tt }, tt, is refl, tt)
+zero-numbers = (record { le = tt }, record { le = tt }, record { le = tt }, record { le = tt }, tt, is refl, tt)
 
 zero-sums : (n : ℕ) → 300 ≤ n → ofℕ (suc zero-least) ≤q S zero-from n
 zero-sums n h = later (λ i. ofℕ (suc zero-least) ≤q S zero-from i) 300 (λ j.
-    q-trans (zero-numbers .0) (sum-bottom (fr (pos (2 ^ 150)) 1 (zero-lt-suc 0)) (S zero-from (from 300 j)) (fr (pos (2 ^ 137)) 1 (zero-lt-suc 0)) (held (pos 0xcff1b5) (2 ^ 17) (pow-pos 17) 300 1 (2 ^ 150) (2 ^ 137) (zero-lt-suc 0) (lit≤ tt) zero-test j))) n h
+    q-trans (zero-numbers .0) (sum-bottom (fr (pos (2 ^ 150 + 7 * 2 ^ 130)) 1 (zero-lt-suc 0)) (S zero-from (from 300 j)) (fr (pos (2 ^ 130)) 1 (zero-lt-suc 0)) (held (pos 0xcff1b5) (2 ^ 17) (pow-pos 17) 300 1 (2 ^ 150 + 7 * 2 ^ 130) (2 ^ 130) (zero-lt-suc 0) (lit≤ tt) zero-test j))) n h
 
 -- far below 0 the sums vanish: where those at a₀ are at least m + 1, those at an x from -a₀ down are at most (1 + 1 / (e + 1)) / (m + 1) in size, from some place on
 pub vanishing : (x : Float) (a₀ : ℚ) (m e n₁ : ℕ) → T (nn a₀) → a₀ ≤q -q_ (val x) → ((n : ℕ) → n₁ ≤ n → ofℕ (suc m) ≤q S a₀ n)
@@ -88,7 +88,7 @@ vanishing x a₀ m e n₁ t h s =
 pub lowest : (x : Float) → zero-from ≤q -q_ (val x) → Right exp x (single 0)
 unfolding norm _-q_
 lowest x h =
-    let r = vanishing x zero-from zero-least (2 ^ 12) 300 (zero-numbers .3) h zero-sums in
-    right-finite exp x (single 0) (zero-numbers .5) record { start = λ _. r .0; below = λ j n k. q-trans (r .1 n k .hi) (zero-numbers .2) } (λ _. r .0) (λ j n k.
-    subst (λ (u : ℚ). Bound (u -q S (cls (value x)) n) (cls (times halfAndPart (unit binary32 (single 0))))) (sym (zero-numbers .4))
-    (subst (λ (u : ℚ). Bound u (cls (times halfAndPart (unit binary32 (single 0))))) (qring (⊝ x₀) (con (pos 0) ⊖ x₀) refl (S (cls (value x)) n ∷ [])) (bound-more (bound-neg (r .1 n k)) (zero-numbers .1))))
+    let r = vanishing x zero-from zero-least (2 ^ 19) 300 (zero-numbers .4) h zero-sums in
+    right-finite exp x (single 0) (zero-numbers .6) record { start = λ _. r .0; below = λ j n k. q-trans (r .1 n k .hi) (zero-numbers .3) } (λ _. r .0) (λ j n k.
+    subst (λ (u : ℚ). Bound (u -q S (cls (value x)) n) (cls (times halfAndPart (unit binary32 (single 0))))) (sym (zero-numbers .5))
+    (subst (λ (u : ℚ). Bound u (cls (times halfAndPart (unit binary32 (single 0))))) (qring (⊝ x₀) (con (pos 0) ⊖ x₀) refl (S (cls (value x)) n ∷ [])) (bound-more (bound-neg (r .1 n k)) (q-trans (zero-numbers .1) (zero-numbers .2)))))

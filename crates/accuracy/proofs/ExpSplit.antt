@@ -158,25 +158,25 @@ split a w x fx t =
       sum = sym (ap₂ (λ (u v : ℚ). u +q v) q e ∙ qring (x₀ ⊕ (x₁ ⊖ x₀)) x₁ refl (fr (k a x) 128 (pow-pos 7) ∷ val x ∷ []));
       asked-whole = record { fit = mul-fits binary32 x (single 0x4300_0000); below = small-of y (m .0) (bound-more (m .1) (scale-numbers .4)) };
       asked-part = record {
-        first = (z .is-fit, ranged-within binary32 59 (kf a x) rk);
-        second = (ranged-fits binary32 60 (neg (single 0x3c00_0000)) minus-part, ranged-within binary32 59 (neg (single 0x3c00_0000)) minus-part);
-        third = (fx, ranged-within binary32 59 x rx);
+        of-x = (z .is-fit, ranged-within binary32 59 (kf a x) rk);
+        of-y = (ranged-fits binary32 60 (neg (single 0x3c00_0000)) minus-part, ranged-within binary32 59 (neg (single 0x3c00_0000)) minus-part);
+        of-z = (fx, ranged-within binary32 59 x rx);
       };
     }
 
 -- ---- the arguments of the split and of the polynomial
 pub asked : (x y z : Float) → Ranged binary64 400 x → Ranged binary64 400 y → Ranged binary64 400 z → Asked binary64 400 x y z
-asked x y z p q r = record { first = (ranged-fits binary64 400 x p, ranged-within binary64 399 x p); second = (ranged-fits binary64 400 y q, ranged-within binary64 399 y q); third = (ranged-fits binary64 400 z r, ranged-within binary64 399 z r) }
+asked x y z p q r = record { of-x = (ranged-fits binary64 400 x p, ranged-within binary64 399 x p); of-y = (ranged-fits binary64 400 y q, ranged-within binary64 399 y q); of-z = (ranged-fits binary64 400 z r, ranged-within binary64 399 z r) }
 
 pub table-arguments : ExpArguments
 table-arguments a w x fx t =
     let s = split a w x fx t in
     let g = stages (a .fma) (fma-law a w) (lo a x) (s .range-lo) (s .small-lo) in
     record {
-      whole = s .asked-whole;
-      part = s .asked-part;
-      third = asked (lo a x) c₄ c₃ (s .range-lo) (in-range .4) (in-range .3);
-      second = asked (lo a x) _ c₂ (s .range-lo) (g .third .range) (in-range .2);
-      first = asked (lo a x) _ c₁ (s .range-lo) (g .second .range) (in-range .1);
-      last = asked (lo a x) _ c₀ (s .range-lo) (g .first .range) (in-range .0);
+      for-kf = s .asked-whole;
+      for-lo = s .asked-part;
+      for-third = asked (lo a x) c₄ c₃ (s .range-lo) (in-range .4) (in-range .3);
+      for-second = asked (lo a x) _ c₂ (s .range-lo) (g .third .range) (in-range .2);
+      for-first = asked (lo a x) _ c₁ (s .range-lo) (g .second .range) (in-range .1);
+      for-poly = asked (lo a x) _ c₀ (s .range-lo) (g .first .range) (in-range .0);
     }

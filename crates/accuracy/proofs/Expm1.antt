@@ -28,7 +28,7 @@ use Rattle.curves.specs.Expm1.{expm1Small, expm1Tables, expm1Value}
 use Rattle.accuracy.specs.Figures.{Right, Agree, equal}
 use Rattle.accuracy.specs.Theorems.{CurveRight, CurveAgrees, CurveSpecial, Proved}
 use Rattle.accuracy.specs.Arguments.{Expm1Reaches, Expm1Arguments}
-use Rattle.accuracy.proofs.Inputs.{positive, negative, signed-of, not-nan, sized-bound, sized-size, zero-pattern}
+use Rattle.accuracy.proofs.Inputs.{positive, negative, signed-of, numberless, sized-bound, sized-size, zero-pattern}
 use Rattle.accuracy.proofs.ExpSplit.{reaches-finite, table-arguments}
 use Rattle.accuracy.proofs.ExpLimit.{first-over, expm1-infinite}
 use Rattle.accuracy.proofs.Exp.{beside, infinity, over-top}
@@ -123,7 +123,7 @@ module _ (x : Float) (w : T (fits binary32 x)) (t : T (finite x)) where
 
 -- ---- what is promised
 pub expm1-right : CurveRight expm1
-expm1-right a w x fx t = go (band x (not-nan x t))
+expm1-right a w x fx t = go (band x (numberless x t))
   where
     go : Band x → Right expm1 x (expm1Value a x)
     go (self h e) = subst (λ (y : Float). Right expm1 x y) (sym (e a)) (itself x t fx (tiny x fx t h))
@@ -133,7 +133,7 @@ expm1-right a w x fx t = go (band x (not-nan x t))
     go (tables r h e) = subst (λ (y : Float). Right expm1 x y) (sym (e a)) (tables-right a w x fx (reaches x r) (beside x fx t) (away x fx t h))
 
 pub expm1-agrees : CurveAgrees expm1
-expm1-agrees a b w u x fx t = go (band x (not-nan x t))
+expm1-agrees a b w u x fx t = go (band x (numberless x t))
   where
     go : Band x → Agree expm1 x (expm1Value a x) (expm1Value b x)
     go (self h e) = equal (e a ∙ sym (e b))

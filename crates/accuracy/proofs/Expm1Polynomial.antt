@@ -323,13 +323,13 @@ module _ (a : Arithmetic) (w : Lawful a) (x : Float) (c : Small x) where
 
   pub small-arguments : SmallArguments a x
   small-arguments = record {
-    fifth = asked x a₆ a₅ range (in-range .6) (in-range .5);
-    fourth = asked x _ a₄ range (scheme .fifth .range) (in-range .4);
-    third = asked x _ a₃ range (scheme .fourth .range) (in-range .3);
-    second = asked x _ a₂ range (scheme .third .range) (in-range .2);
-    first = asked x _ a₁ range (scheme .second .range) (in-range .1);
-    last = asked x _ a₀ range (scheme .first .range) (in-range .0);
-    sum = asked s₀ sq x (scheme .last .range) sq-range range;
+    for-5 = asked x a₆ a₅ range (in-range .6) (in-range .5);
+    for-4 = asked x _ a₄ range (scheme .fifth .range) (in-range .4);
+    for-3 = asked x _ a₃ range (scheme .fourth .range) (in-range .3);
+    for-2 = asked x _ a₂ range (scheme .third .range) (in-range .2);
+    for-1 = asked x _ a₁ range (scheme .second .range) (in-range .1);
+    for-0 = asked x _ a₀ range (scheme .first .range) (in-range .0);
+    for-sum = asked s₀ sq x (scheme .last .range) sq-range range;
   }
 
   p-high : Bound (val s₀) (dy 35 6)

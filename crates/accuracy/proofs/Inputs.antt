@@ -72,11 +72,11 @@ signed-of x w t =
     split p l h = omega arith
 
 -- ---- a finite f32 is no NaN, and is of the size that its pattern says
-pub not-nan : (x : Float) → T (finite x) → T (not (isNan x))
+pub numberless : (x : Float) → T (finite x) → T (not (isNan x))
 unfolding isNan
-not-nan nan t = absurd t
-not-nan (inf s) t = absurd t
-not-nan (fin s m e) t = tt
+numberless nan t = absurd t
+numberless (inf s) t = absurd t
+numberless (fin s m e) t = tt
 
 pub decide : (b : Bool) → T b ⊎ T (not b)
 decide true = inl tt
