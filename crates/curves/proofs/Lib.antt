@@ -7,3 +7,6 @@ pub mod Checked
 pub mod Shift
 pub mod Fields
 pub mod WholePower
+pub mod Law
+pub mod PowerRow
+pub mod Decimal

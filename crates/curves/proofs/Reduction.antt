@@ -96,7 +96,7 @@ pub record Rounded (f : Format) (j : ℕ) (s : Bool) (X : ℕ) (kf : Float) : Ty
   pub size : m * up e ≡ halves (X * 2 ^ j) (2 ^ low f) * down e
   pub like-x : (sign ≡ s) ⊎ (halves (X * 2 ^ j) (2 ^ low f) ≡ 0)
 
-sign-of : (s t : Bool) (a b : ℕ) → signed s a ≡ signed t b → (s ≡ t) ⊎ (b ≡ 0)
+pub sign-of : (s t : Bool) (a b : ℕ) → signed s a ≡ signed t b → (s ≡ t) ⊎ (b ≡ 0)
 sign-of false false a b e = inl refl
 sign-of true true a b e = inl refl
 sign-of false true a zero e = inr refl

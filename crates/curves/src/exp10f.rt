@@ -5,6 +5,7 @@ ghost use lib.ListN.{getD};
 ghost use Rattle.curves.specs.Tables.{exp2Mid};
 ghost use Rattle.curves.specs.Steps.{rowOf, scaledRow};
 ghost use Rattle.curves.specs.Exp10.{hi, lo, exp10NearOne, exp10Small, exp10Table, exp10Value};
+ghost use Rattle.curves.specs.Split.{Exp10Splits};
 use crate::Curve;
 use crate::polyeval::polyeval7;
 use crate::polyeval::times_power;
@@ -150,4 +151,11 @@ pub impl Curve for Exp10 as Exp10Curve {
             exp10_table(arith, x)
         }
     }
+}
+
+// Every x that reaches the table is reduced by the nearest k, the first step exactly, and to a small lo, under every lawful arithmetic.
+pub fn exp10_splits() -> u8
+    ensures { λ _. ⌜ Exp10Splits ⌝ }
+{
+    0
 }
