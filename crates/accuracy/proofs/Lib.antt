@@ -5,3 +5,5 @@ pub mod PowerTable
 pub mod PowerRows
 pub mod Inputs
 pub mod PowerLimits
+pub mod PowerInputs
+pub mod BinaryTable
