@@ -47,7 +47,7 @@ use Rattle.curves.proofs.PowerRow.{entry-from-one, scaled-row}
 use Rattle.accuracy.proofs.Outcome.{Near, near-positive, nearer, close, Wide}
 use Rattle.accuracy.proofs.PowerInputs.{exp2-finite, exp2-size, exp2-away}
 use Rattle.accuracy.proofs.PowerProduct.{Coefficients}
-use Rattle.accuracy.proofs.PowerTable.{Approximates, table-near, table-finite, table-low}
+use Rattle.accuracy.proofs.PowerTable.{part-split, Approximates, table-near, table-finite, table-low}
 use Rattle.accuracy.proofs.PowerRows.{entry-rule}
 
 -- ---- the coefficients
@@ -107,10 +107,6 @@ approximates = record {
 pieces : (z : ℤ) → z ≡ pos 64 *ℤ shrZ z 64 +ℤ pos (rowOf 64 z)
 pieces (pos a) = omega (arith, ints)
 pieces (negsuc a) = omega (arith, ints)
-
-part-split : (c : ℕ) (C : 0 < c) (h : ℤ) (i : ℕ) → fr (pos c *ℤ h +ℤ pos i) c C ≡ ofℤ h +q fr (pos i) c C
-unfolding _+q_ ofℤ norm
-part-split c C h i = is (zring ((x₂ ⊗ x₀ ⊕ x₁) ⊗ (con (pos 1) ⊗ x₂)) ((x₀ ⊗ x₂ ⊕ x₁ ⊗ con (pos 1)) ⊗ x₂) refl (h ∷ pos i ∷ pos c ∷ []))
 
 pub k-parts : (z : ℤ) → _≡_ {A = ℚ} (cls (dyadic z 6)) (ofℤ (shrZ z 64) +q fr (pos (rowOf 64 z)) 64 (zero-lt-suc 63))
 k-parts z = same z ∙ ap (λ (w : ℤ). fr w 64 (zero-lt-suc 63)) (pieces z) ∙ part-split 64 (zero-lt-suc 63) (shrZ z 64) (rowOf 64 z)

@@ -7,3 +7,4 @@ pub mod Inputs
 pub mod PowerLimits
 pub mod PowerInputs
 pub mod BinaryTable
+pub mod DecimalTable

@@ -6,18 +6,18 @@ use native.Mathlib.Nat.{le-trans}
 use native.Mathlib.Omega.{arith}
 use lib.Dec.{T, lit≤}
 use lib.Pow.{pow-pos, pow-mono}
-use lib.IntN.{ℤ, pos, negsuc, natAbs, _*ℤ_}
+use lib.IntN.{ℤ, pos, negsuc, natAbs, _+ℤ_, _*ℤ_}
 use lib.Ieee.{Float, binary64, ofBits}
 use lib.Ieee.Scale.{finite}
 use borrow.Author.Differences.{ints, le-in}
 use std.Quotient.{cls}
 use Rattle.exact.specs.Logarithm.{Base, binary, decimal}
 use Rattle.exact.proofs.Ring.{con, _⊕_, _⊖_, _⊗_, ⊝, norm}
-use Rattle.exact.proofs.Integer.{x₀, x₁, x₂, x₃, x₄, x₅, x₆}
+use Rattle.exact.proofs.Integer.{zring, x₀, x₁, x₂, x₃, x₄, x₅, x₆}
 use Rattle.exact.proofs.Rational.{ℚ, is, _+q_, _*q_, -q_, _-q_, ofℤ, qring}
 use Rattle.exact.proofs.Order.{nn, nn-mul, _≤q_, le-by, q-refl, q-trans, q-add, q-mul}
 use Rattle.exact.proofs.Bound.{ofℕ, inv, nn-ofℕ, ofℕ-mono, nn-le, le-nn, Bound, bound-more, bound-add, bound-mul, bound-self, bound-neg, mul-right, mul-mono}
-use Rattle.exact.proofs.Compare.{nn-dy, dy-mono, leq-in}
+use Rattle.exact.proofs.Compare.{fr, nn-dy, dy-mono, leq-in}
 use Rattle.exact.proofs.Relative.{Rel, rel-more, rel-mul}
 use Rattle.exact.proofs.Series.{term, S, R, from, later, tail}
 use Rattle.exact.proofs.Product.{mult₃}
@@ -133,6 +133,11 @@ power-range (negsuc h) s = (
 whole-size : (h : ℤ) → natAbs h ≤ 159 → Bound (ofℤ h) (ofℕ 160)
 unfolding ofℤ ofℕ -q_
 whole-size h s = record { hi = leq-in _ _ (le-in (h *ℤ pos 1) (pos 160) (omega (arith, ints))); lo = leq-in _ _ (le-in (negsuc 159) (h *ℤ pos 1) (omega (arith, ints))) }
+
+-- a whole number over c, in whole parts and a rest
+pub part-split : (c : ℕ) (C : 0 < c) (h : ℤ) (i : ℕ) → fr (pos c *ℤ h +ℤ pos i) c C ≡ ofℤ h +q fr (pos i) c C
+unfolding _+q_ ofℤ norm
+part-split c C h i = is (zring ((x₂ ⊗ x₀ ⊕ x₁) ⊗ (con (pos 1) ⊗ x₂)) ((x₀ ⊗ x₂ ⊕ x₁ ⊗ con (pos 1)) ⊗ x₂) refl (h ∷ pos i ∷ pos c ∷ []))
 
 -- ---- a row of a table: from 1 to 2, and within 2 ^ -52 of e ^ r
 pub record RowRule (y : Float) (r : ℚ) : Type 0 where
