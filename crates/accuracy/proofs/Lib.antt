@@ -8,3 +8,6 @@ pub mod PowerLimits
 pub mod PowerInputs
 pub mod BinaryTable
 pub mod DecimalTable
+pub mod NearZero
+pub mod BinaryPolynomial
+pub mod DecimalPolynomial
