@@ -11,3 +11,4 @@ pub mod DecimalTable
 pub mod NearZero
 pub mod BinaryPolynomial
 pub mod DecimalPolynomial
+pub mod PowerBands
