@@ -12,3 +12,5 @@ pub mod NearZero
 pub mod BinaryPolynomial
 pub mod DecimalPolynomial
 pub mod PowerBands
+pub mod Tests
+pub mod Binary
