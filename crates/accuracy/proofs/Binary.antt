@@ -46,7 +46,7 @@ use Rattle.accuracy.proofs.PowerLimits.{last}
 use Rattle.accuracy.proofs.PowerBands.{infinite-right, one-right, zero-from, zero-right, least-right, whole-right}
 use Rattle.accuracy.proofs.BinaryPolynomial.{small-wide}
 use Rattle.accuracy.proofs.BinaryTable.{table-wide}
-use Rattle.accuracy.proofs.Tests.{less, not-less, at-most, not-at-most, both-hold, left-fails, right-fails, taken, left}
+use Rattle.accuracy.proofs.Tests.{less, not-less, up-to-is, not-up-to, both-hold, left-fails, right-fails, taken, left}
 
 -- ---- the band of a number, and its figure under every arithmetic
 pub data Band (x : Float) : Type 0 where
@@ -69,23 +69,23 @@ band x number = by-whole (inPowers x) refl
     by-size e₁ h₂ h₃ h₄ e₅ =
         let e₂ = not-less (magnitude x) 0x3280_0000 h₂ in
         let e₃ = left-fails (ltb 0xc315_0000 (pattern x)) (ltb (pattern x) 0xc316_0000) (not-less 0xc315_0000 (pattern x) h₃) in
-        let e₄ = not-at-most 0xc316_0000 (pattern x) (omega arith) in
+        let e₄ = not-up-to 0xc316_0000 (pattern x) (omega arith) in
         elim (order 0x3d00_0000 (magnitude x)) [
           | inl g ↦ table (record { number = number; broken = e₁; past-small = g; limits = elim h₄ [ inl l ↦ inl l | inr l ↦ inr (l, h₃) ] })
-              (λ a. left (isNan x) _ _ e₀ ∙ left (inPowers x) _ _ e₁ ∙ left (ltb (magnitude x) 0x3280_0000) _ _ e₂ ∙ left (ltb 0xc315_0000 (pattern x) && ltb (pattern x) 0xc316_0000) _ _ e₃ ∙ left (leb 0xc316_0000 (pattern x)) _ _ e₄ ∙ left (ltb (pattern x) 0x8000_0000 && leb 0x4300_0000 (pattern x)) _ _ e₅ ∙ left (leb (magnitude x) 0x3d00_0000) _ _ (not-at-most (magnitude x) 0x3d00_0000 g))
-          | inr g ↦ small g (λ a. left (isNan x) _ _ e₀ ∙ left (inPowers x) _ _ e₁ ∙ left (ltb (magnitude x) 0x3280_0000) _ _ e₂ ∙ left (ltb 0xc315_0000 (pattern x) && ltb (pattern x) 0xc316_0000) _ _ e₃ ∙ left (leb 0xc316_0000 (pattern x)) _ _ e₄ ∙ left (ltb (pattern x) 0x8000_0000 && leb 0x4300_0000 (pattern x)) _ _ e₅ ∙ taken (leb (magnitude x) 0x3d00_0000) _ _ (at-most (magnitude x) 0x3d00_0000 g))
+              (λ a. left (isNan x) _ _ e₀ ∙ left (inPowers x) _ _ e₁ ∙ left (ltb (magnitude x) 0x3280_0000) _ _ e₂ ∙ left (ltb 0xc315_0000 (pattern x) && ltb (pattern x) 0xc316_0000) _ _ e₃ ∙ left (leb 0xc316_0000 (pattern x)) _ _ e₄ ∙ left (ltb (pattern x) 0x8000_0000 && leb 0x4300_0000 (pattern x)) _ _ e₅ ∙ left (leb (magnitude x) 0x3d00_0000) _ _ (not-up-to (magnitude x) 0x3d00_0000 g))
+          | inr g ↦ small g (λ a. left (isNan x) _ _ e₀ ∙ left (inPowers x) _ _ e₁ ∙ left (ltb (magnitude x) 0x3280_0000) _ _ e₂ ∙ left (ltb 0xc315_0000 (pattern x) && ltb (pattern x) 0xc316_0000) _ _ e₃ ∙ left (leb 0xc316_0000 (pattern x)) _ _ e₄ ∙ left (ltb (pattern x) 0x8000_0000 && leb 0x4300_0000 (pattern x)) _ _ e₅ ∙ taken (leb (magnitude x) 0x3d00_0000) _ _ (up-to-is (magnitude x) 0x3d00_0000 g))
         ]
 
     by-sign : inPowers x ≡ false → 0x3280_0000 ≤ magnitude x → pattern x ≤ 0xc315_0000 → Band x
     by-sign e₁ h₂ h₃ =
         let e₂ = not-less (magnitude x) 0x3280_0000 h₂ in
         let e₃ = left-fails (ltb 0xc315_0000 (pattern x)) (ltb (pattern x) 0xc316_0000) (not-less 0xc315_0000 (pattern x) h₃) in
-        let e₄ = not-at-most 0xc316_0000 (pattern x) (omega arith) in
+        let e₄ = not-up-to 0xc316_0000 (pattern x) (omega arith) in
         elim (order (pattern x) 0x8000_0000) [
           | inl s ↦ elim (order (pattern x) 0x4300_0000) [
-            | inl g ↦ by-size e₁ h₂ h₃ (inl g) (right-fails (ltb (pattern x) 0x8000_0000) (leb 0x4300_0000 (pattern x)) (not-at-most 0x4300_0000 (pattern x) g))
+            | inl g ↦ by-size e₁ h₂ h₃ (inl g) (right-fails (ltb (pattern x) 0x8000_0000) (leb 0x4300_0000 (pattern x)) (not-up-to 0x4300_0000 (pattern x) g))
             | inr g ↦ infinite s g (λ a. left (isNan x) _ _ e₀ ∙ left (inPowers x) _ _ e₁ ∙ left (ltb (magnitude x) 0x3280_0000) _ _ e₂ ∙ left (ltb 0xc315_0000 (pattern x) && ltb (pattern x) 0xc316_0000) _ _ e₃ ∙ left (leb 0xc316_0000 (pattern x)) _ _ e₄
-                ∙ taken (ltb (pattern x) 0x8000_0000 && leb 0x4300_0000 (pattern x)) _ _ (both-hold (ltb (pattern x) 0x8000_0000) (leb 0x4300_0000 (pattern x)) (less (pattern x) 0x8000_0000 s) (at-most 0x4300_0000 (pattern x) g)))
+                ∙ taken (ltb (pattern x) 0x8000_0000 && leb 0x4300_0000 (pattern x)) _ _ (both-hold (ltb (pattern x) 0x8000_0000) (leb 0x4300_0000 (pattern x)) (less (pattern x) 0x8000_0000 s) (up-to-is 0x4300_0000 (pattern x) g)))
           ]
           | inr s ↦ by-size e₁ h₂ h₃ (inr s) (left-fails (ltb (pattern x) 0x8000_0000) (leb 0x4300_0000 (pattern x)) (not-less (pattern x) 0x8000_0000 s))
         ]
@@ -98,7 +98,7 @@ band x number = by-whole (inPowers x) refl
             | inl l ↦ least l g (λ a. left (isNan x) _ _ e₀ ∙ left (inPowers x) _ _ e₁ ∙ left (ltb (magnitude x) 0x3280_0000) _ _ e₂ ∙ taken (ltb 0xc315_0000 (pattern x) && ltb (pattern x) 0xc316_0000) _ _ (both-hold (ltb 0xc315_0000 (pattern x)) (ltb (pattern x) 0xc316_0000) (less 0xc315_0000 (pattern x) l) (less (pattern x) 0xc316_0000 g)))
             | inr l ↦ by-sign e₁ h₂ l
           ]
-          | inr g ↦ zero-band g (λ a. left (isNan x) _ _ e₀ ∙ left (inPowers x) _ _ e₁ ∙ left (ltb (magnitude x) 0x3280_0000) _ _ e₂ ∙ left (ltb 0xc315_0000 (pattern x) && ltb (pattern x) 0xc316_0000) _ _ (right-fails (ltb 0xc315_0000 (pattern x)) (ltb (pattern x) 0xc316_0000) (not-less (pattern x) 0xc316_0000 g)) ∙ taken (leb 0xc316_0000 (pattern x)) _ _ (at-most 0xc316_0000 (pattern x) g))
+          | inr g ↦ zero-band g (λ a. left (isNan x) _ _ e₀ ∙ left (inPowers x) _ _ e₁ ∙ left (ltb (magnitude x) 0x3280_0000) _ _ e₂ ∙ left (ltb 0xc315_0000 (pattern x) && ltb (pattern x) 0xc316_0000) _ _ (right-fails (ltb 0xc315_0000 (pattern x)) (ltb (pattern x) 0xc316_0000) (not-less (pattern x) 0xc316_0000 g)) ∙ taken (leb 0xc316_0000 (pattern x)) _ _ (up-to-is 0xc316_0000 (pattern x) g))
         ]
 
     by-whole : (b : Bool) → inPowers x ≡ b → Band x

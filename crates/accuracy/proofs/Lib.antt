@@ -14,3 +14,5 @@ pub mod DecimalPolynomial
 pub mod PowerBands
 pub mod Tests
 pub mod Binary
+pub mod Neighbours
+pub mod NearOne

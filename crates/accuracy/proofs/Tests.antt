@@ -13,11 +13,11 @@ less m n h = is-true (ltb m n) (lt→ltb m n h)
 pub not-less : (m n : ℕ) → n ≤ m → ltb m n ≡ false
 not-less m n h = is-false (ltb m n) (not-T (ltb m n) (λ t. let k = ltb→lt m n t in absurd (omega arith)))
 
-pub at-most : (m n : ℕ) → m ≤ n → leb m n ≡ true
-at-most m n h = is-true (leb m n) (le→leb m n h)
+pub up-to-is : (m n : ℕ) → m ≤ n → leb m n ≡ true
+up-to-is m n h = is-true (leb m n) (le→leb m n h)
 
-pub not-at-most : (m n : ℕ) → n < m → leb m n ≡ false
-not-at-most m n h = is-false (leb m n) (not-T (leb m n) (λ t. let k = leb→le m n t in absurd (omega arith)))
+pub not-up-to : (m n : ℕ) → n < m → leb m n ≡ false
+not-up-to m n h = is-false (leb m n) (not-T (leb m n) (λ t. let k = leb→le m n t in absurd (omega arith)))
 
 pub both-hold : (a b : Bool) → a ≡ true → b ≡ true → (a && b) ≡ true
 both-hold a b p q = ap₂ _&&_ p q
