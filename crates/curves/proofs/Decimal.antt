@@ -390,7 +390,7 @@ module _ (x : Float) (i : Input x) where
       cast-value 31 (kd a x) 4923 (lit≤ tt) (r .is-finite) (subst (λ (u : ℚ). Mult 0 u) (sym (r .value-of)) (mult-whole (r .num)))
       (k-size (a .fma) (fma-law a v) x (kd a x) (r .num) (input-ready w) input-size (r .is-finite) (r .is-fit) (r .value-of) (r .off))
 
-same-integer : (z w : ℤ) → ofℤ z ≡ ofℤ w → z ≡ w
+pub same-integer : (z w : ℤ) → ofℤ z ≡ ofℤ w → z ≡ w
 unfolding ofℤ
 same-integer z w e = sym (mul-oneℤ z) ∙ same-number (integer z) (integer w) e ∙ mul-oneℤ w
 

@@ -135,7 +135,7 @@ of-whole false K h = (false, round-whole binary32 false K (omega arith), inl ref
 of-whole true zero h = (false, round-whole binary32 false 0 (omega arith), inr refl)
 of-whole true (suc n) h = (true, round-whole binary32 true (suc n) (omega arith), inl refl)
 
-in-range : (s : Bool) (K : ℕ) → negsuc 148 ≤ℤ cond s (negℤ (pos (min K 2147483648))) (pos (min K 2147483647)) → cond s (negℤ (pos (min K 2147483648))) (pos (min K 2147483647)) ≤ℤ pos 127
+pub in-range : (s : Bool) (K : ℕ) → negsuc 148 ≤ℤ cond s (negℤ (pos (min K 2147483648))) (pos (min K 2147483647)) → cond s (negℤ (pos (min K 2147483648))) (pos (min K 2147483647)) ≤ℤ pos 127
     → (K ≤ 149) × (cond s (negℤ (pos (min K 2147483648))) (pos (min K 2147483647)) ≡ cond s (negℤ (pos K)) (pos K))
 in-range false K l h = let b : K ≤ 127 = omega (arith, ints, h) in (omega arith, ap pos (omega arith))
 in-range true K l h = let b : K ≤ 149 = omega (arith, ints, l) in (b, ap (λ (n : ℕ). negℤ (pos n)) (omega arith))
