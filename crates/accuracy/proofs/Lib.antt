@@ -16,3 +16,4 @@ pub mod Tests
 pub mod Binary
 pub mod Neighbours
 pub mod NearOne
+pub mod TenPowers
