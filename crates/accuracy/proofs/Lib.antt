@@ -17,3 +17,4 @@ pub mod Binary
 pub mod Neighbours
 pub mod NearOne
 pub mod TenPowers
+pub mod Decimal
