@@ -30,3 +30,5 @@ pub mod Tests
 pub mod Binary
 pub mod Neighbours
 pub mod NearOne
+pub mod TenPowers
+pub mod Decimal
