@@ -32,3 +32,4 @@ pub mod Neighbours
 pub mod NearOne
 pub mod TenPowers
 pub mod Decimal
+pub mod Proved

@@ -2,7 +2,7 @@
 ghost use mathlib.Core.Path.{_≡_};
 ghost use lib.Dec.{T};
 ghost use lib.Ieee.Scale.{finite};
-ghost use Rattle.exact.specs.Exact.{exp, exp2, expm1};
+ghost use Rattle.exact.specs.Exact.{exp, exp2, exp10, expm1};
 ghost use Rattle.curves.specs.Exp.{expValue};
 ghost use Rattle.curves.specs.Exp2.{exp2Value};
 ghost use Rattle.curves.specs.Exp10.{exp10Value};
@@ -37,7 +37,10 @@ pub fn f_exp2f<B: ExpfBackend>(arith: &B, x: f32) -> f32
 
 // 10^x on f32.
 pub fn f_exp10f<B: ExpfBackend>(arith: &B, x: f32) -> f32
-    ensures { λ r. ⌜ r ≡ exp10Value (B·ExpfBackend .meaning (now (arith .entry))) x ⌝ }
+    ensures steps { λ r. ⌜ r ≡ exp10Value (B·ExpfBackend .meaning (now (arith .entry))) x ⌝ }
+    ensures right { λ r. ⌜ (T (finite x) → Right exp10 x r) ⌝ }
+    ensures exact { λ r. ⌜ Exactly exp10 x r ⌝ }
+    ensures special { λ r. ⌜ Special exp10 x r ⌝ }
 {
     Exp10Curve::value(arith, x)
 }
