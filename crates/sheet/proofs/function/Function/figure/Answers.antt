@@ -1,0 +1,18 @@
+use Rattle.sheet.specs.Functions.{figureOf}
+use Rattle.sheet.proofs.function.Function.figure.Needs as need
+
+pub returns-in-Exp : need.returns-in-Exp
+unfolding figureOf
+returns-in-Exp g c = c .value .ensures
+
+pub returns-in-Exp2 : need.returns-in-Exp2
+unfolding figureOf
+returns-in-Exp2 g c = c .value .ensures
+
+pub returns-in-Exp10 : need.returns-in-Exp10
+unfolding figureOf
+returns-in-Exp10 g c = c .value .ensures
+
+pub returns-in-Expm1 : need.returns-in-Expm1
+unfolding figureOf
+returns-in-Expm1 g c = c .value .ensures
