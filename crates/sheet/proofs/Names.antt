@@ -16,6 +16,7 @@ use Rattle.sheet.specs.declared.function.Function.{Function}
 use Rattle.sheet.specs.declared.function.Function.the-variants.{Exp, Exp2, Exp10, Expm1}
 use Rattle.sheet.specs.declared.peg.Mark.{Mark}
 use Rattle.sheet.specs.declared.peg.Mark.the-variants.{Blank, Entered, Worked}
+use Rattle.sheet.specs.declared.peg.Peg.{Peg}
 use Rattle.sheet.specs.Faults.{numberOf}
 use Rattle.sheet.specs.Functions.{codeOf, lastCode}
 use Rattle.sheet.specs.Calls.{Part}
@@ -84,3 +85,11 @@ fails b e t = subst T e t
 pub cases-T : (b : Bool) → T b ⊎ (T b → ⊥)
 cases-T true = inl tt
 cases-T false = inr (λ t. t)
+
+-- the mark of a peg that was read
+pub marked : (q r : Peg) (m : Mark) → q ≡ r → m ≡ q .mark → r .mark ≡ m
+marked q r m e h = ap (λ p. p .mark) (sym e) ∙ sym h
+
+pub marked-again : (q r : Peg) (m : Mark) → q ≡ r → m ≡ q .mark → (m ≡ Entered) ⊎ (m ≡ Worked) → r .mark ≡ Blank → ⊥
+marked-again q r m e h (inl i) b = entered-not-blank (r .mark) (marked q r m e h ∙ i) b
+marked-again q r m e h (inr i) b = worked-not-blank (r .mark) (marked q r m e h ∙ i) b

@@ -75,6 +75,10 @@ abbrev pub entries : Sheet → ℕ
 entries [] = 0
 entries (q ∷ s) = isEntered (q .mark) + entries s
 
+-- as many pegs, and each is blank
+abbrev pub AllBlank : Sheet → Sheet → Type 0
+AllBlank s t = (length t ≡ length s) × ((k : ℕ) → k < length t → peg t k ≡ blank)
+
 -- every peg is blank
 pub record Laid (s : Sheet) (v : ℕ) (t : Sheet) : Type 0 where
   pub size : length t ≡ length s

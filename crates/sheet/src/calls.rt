@@ -3,7 +3,7 @@ ghost use mathlib.Core.Path.{_≡_};
 ghost use Prim.Native.Nat.{_<_};
 ghost use lib.ListN.{length};
 ghost use Rattle.sheet.specs.Pegs.{Found, peg as pegOf};
-ghost use Rattle.sheet.specs.Calls.{Does, Turned, Sized, laying, entering, working, reading, clearing};
+ghost use Rattle.sheet.specs.Calls.{Does, AllBlank, Turned, Sized, laying, entering, working, reading, clearing};
 ghost use Rattle.sheet.specs.Histories.{Kept, Starts};
 use crate::fault::Fault;
 use crate::function::Function;
@@ -41,6 +41,14 @@ fn find(sheet: &[Peg], peg: u16) -> Result<Peg, Fault>
     Ok(row(sheet, at))
 }
 
+pub(crate) fn make_blank(sheet: &mut [Peg])
+    ensures { λ _. ⌜ AllBlank (now (sheet .entry)) (now (sheet .exit)) ⌝ }
+{
+    for q in sheet.iter_mut() {
+        *q = Peg::blank();
+    }
+}
+
 // Makes every peg blank.
 pub fn lay(sheet: &mut [Peg]) -> Result<u32, Fault>
     ensures does { λ r. ⌜ Does (now (sheet .entry)) laying r (now (sheet .exit)) ⌝ }
@@ -48,9 +56,7 @@ pub fn lay(sheet: &mut [Peg]) -> Result<u32, Fault>
     ensures starts { λ r. ⌜ Starts r (now (sheet .exit)) ⌝ }
 {
     let n = size(sheet)?;
-    for q in sheet.iter_mut() {
-        *q = Peg::blank();
-    }
+    make_blank(sheet);
     Ok(n)
 }
 
