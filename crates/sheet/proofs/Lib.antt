@@ -6,3 +6,4 @@ pub mod Pairs
 pub mod Stories
 pub mod Runs
 pub mod Promised
+pub mod Tapes

@@ -2,13 +2,18 @@
 ghost use mathlib.Core.Path.{_≡_};
 ghost use Rattle.sheet.specs.Calls.{Does};
 ghost use Rattle.sheet.specs.Histories.{Kept, Promise};
-ghost use Rattle.sheet.specs.Lists.{callOf, Replayed};
+ghost use Rattle.sheet.specs.Lists.{callOf, Replayed, BothLaid, BothReplayed};
 use crate::calls::clear;
 use crate::calls::enter;
 use crate::calls::lay;
+use crate::calls::make_blank;
 use crate::calls::read;
+use crate::calls::size;
 use crate::calls::work;
 use crate::fault::Fault;
+use crate::fault::FaultDebug;
+use crate::fault::FaultEq;
+use crate::fault::FaultPartialEq;
 use crate::peg::Peg;
 use arithmetic::ExpfBackend;
 
@@ -60,4 +65,54 @@ pub fn replay<A: ExpfBackend>(sheet: &mut [Peg], list: &mut [Step<A>]) -> Result
         step.answer = perform(sheet, step.command, &step.arith);
     }
     Ok(n)
+}
+
+// A command for two sheets, with an arithmetic for either, and the answers of both once it was carried out.
+#[derive(Clone, Copy)]
+pub struct TwinStep<A, B> {
+    pub command: Command,
+    pub left_arith: A,
+    pub right_arith: B,
+    pub left_answer: Result<u32, Fault>,
+    pub right_answer: Result<u32, Fault>,
+}
+
+// Which of two sheets cannot be laid, and why.
+#[derive(Clone, Copy, Debug, PartialEq, Eq)]
+pub enum LayFault {
+    Left(Fault),
+    Right(Fault),
+}
+
+// Lays both sheets, or neither.
+fn lay_both(left: &mut [Peg], right: &mut [Peg]) -> Result<(u32, u32), LayFault>
+    ensures { λ r. ⌜ BothLaid (now (left .entry)) (now (right .entry)) r (now (left .exit)) (now (right .exit)) ⌝ }
+{
+    let m = match size(left) {
+        Ok(m) => m,
+        Err(e) => return Err(LayFault::Left(e)),
+    };
+    let n = match size(right) {
+        Ok(n) => n,
+        Err(e) => return Err(LayFault::Right(e)),
+    };
+    make_blank(left);
+    make_blank(right);
+    Ok((m, n))
+}
+
+// Lays two sheets and carries out the commands of a list on both. Returns their numbers of pegs.
+pub fn replay_both<A: ExpfBackend, B: ExpfBackend>(
+    left: &mut [Peg],
+    right: &mut [Peg],
+    list: &mut [TwinStep<A, B>],
+) -> Result<(u32, u32), LayFault>
+    ensures { λ r. ⌜ BothReplayed (A·ExpfBackend .meaning) (B·ExpfBackend .meaning) (now (left .entry)) (now (right .entry)) (now (list .entry)) r (now (left .exit)) (now (right .exit)) (now (list .exit)) ⌝ }
+{
+    let sizes = lay_both(left, right)?;
+    for step in list.iter_mut() {
+        step.left_answer = perform(left, step.command, &step.left_arith);
+        step.right_answer = perform(right, step.command, &step.right_arith);
+    }
+    Ok(sizes)
 }
