@@ -37,6 +37,6 @@ returns g c =
     let a = g .B·ExpfBackend .meaning (c .args .arith .now) in
     let all : c .loop-at .at - c .from-start .result ≡ c .args .count = omega arith in
     let whole : Finished s (c .args .first) (c .args .count) a (c .loop-at .done) t =
-      subst (λ n. Finished s (c .args .first) n a (c .loop-at .done) t) all (subst (λ f. Finished s f (c .loop-at .at - c .from-start .result) a (c .loop-at .done) t) (c .from-start .ensures) (c .loop-at .inv))
+    subst (λ n. Finished s (c .args .first) n a (c .loop-at .done) t) all (subst (λ f. Finished s f (c .loop-at .at - c .from-start .result) a (c .loop-at .done) t) (c .from-start .ensures) (c .loop-at .inv))
     in
     both s (working (c .args .first) (c .args .count) a) (Ok (c .loop-at .done)) t (g .B·ExpfBackend·met .lawful (c .args .arith .now)) (work-passes _ _ _ _ (omega arith), whole)

@@ -24,4 +24,4 @@ loop-step-again g c =
 pub returns : need.returns
 returns g c =
     let laid = c .in-Continue-n .ensures tt .does .1 in
-    carried-out (eventOf (g .A·ExpfBackend .meaning)) _ _ _ (c .loop-step .step-index) _ _ (laid .number) (c .loop-step .kept .sheet ∙ laid .size) (omega arith) (c .loop-step .inv)
+    carried-out (eventOf (g .A·ExpfBackend .meaning)) (c .args .sheet .now) (c .args .list .now) (c .in-Continue-n .n) (c .loop-step .step-index) (c .loop-step .sheet) (c .loop-step .list) (laid .number) (c .loop-step .kept .sheet ∙ laid .size) (omega arith) (c .loop-step .inv)
