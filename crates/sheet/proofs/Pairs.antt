@@ -5,18 +5,20 @@ use mathlib.Core.Logic.{_⊎_, inl, inr, ⊎-elim}
 use Prim.Native.Nat.{ℕ, zero, suc, _+_, _≤_, _<_}
 use native.Mathlib.Omega.{arith}
 use lib.ListN.{length, getD, set, take, drop}
-use lib.Ieee.{Float}
+use lib.Ieee.{Float, binary32, toBits}
 use Rattle.std.specs.declared.result.Result.the-variants.{Ok, Err}
 use Rattle.std.proofs.shelf.Lists.{getD-default, getD-past, getD-set-same, getD-set-other, length-set, same-lists}
 use Rattle.std.proofs.shelf.Tests.{cases-eq, cases-lt, cases-order}
 use Rattle.arithmetic.specs.Arithmetic.{Arithmetic}
+use Rattle.accuracy.specs.Figures.{Agree}
 use Rattle.sheet.specs.declared.function.Function.{Function}
 use Rattle.sheet.specs.declared.peg.Mark.the-variants.{Blank, Entered}
 use Rattle.sheet.specs.declared.peg.Peg.{Peg}
 use Rattle.sheet.specs.Faults.{numberOf}
+use Rattle.sheet.specs.Functions.{curveOf}
 use Rattle.sheet.specs.Pegs.{Sheet, peg, blank, entered, worked}
 use Rattle.sheet.specs.Calls.{Call, Answer, Does, Effect, Line, Refuses, Passes, Laid, Enters, Finished, Part, entries, isEntered, laying, entering, working, reading, clearing, no-peg, too-many, beyond, no-code, not-finite, no-peg-to-enter, no-peg-to-read, no-peg-to-clear, not-blank, blank-to-read, blank-to-clear, not-worked}
-use Rattle.sheet.specs.Histories.{History, Reached, laid, after, SameCall, SameCalls, SameAnswer, SameAnswers}
+use Rattle.sheet.specs.Histories.{SameCall, SameAnswer}
 use Rattle.sheet.proofs.Names.{cases-part, fault-one, function-one}
 
 pub record TwinPeg (q r : Peg) : Type 0 where
@@ -27,6 +29,10 @@ pub record TwinPeg (q r : Peg) : Type 0 where
 pub record Twin (s t : Sheet) : Type 0 where
   pub size : length s ≡ length t
   pub pegs : (k : ℕ) → TwinPeg (peg s k) (peg t k)
+
+-- the figures of two sheets agree
+abbrev pub Near : Sheet → Sheet → Type 0
+Near s t = (k : ℕ) → Agree (curveOf (peg s k .function)) (peg s k .input) (peg s k .figure) (peg t k .figure)
 
 twin-same : (q r : Peg) → q ≡ r → TwinPeg q r
 twin-same q r e = record { functions = ap (λ p. p .function) e; inputs = ap (λ p. p .input) e; marks = ap (λ p. p .mark) e }
@@ -105,14 +111,14 @@ entries-twin (suc f) n (q ∷ s) [] e w = absurd (omega arith)
 entries-twin (suc f) n (q ∷ s) (r ∷ t) e w = entries-twin f n s t (omega arith) (λ k. w (suc k))
 
 -- what the two calls leave
-record Paired (t : Sheet) (c : Call) (a : Answer) (u : Sheet) (b : Answer) : Type 0 where
-  sheets : Twin t u
-  answers : SameAnswer c a b
+pub record Paired (t : Sheet) (c : Call) (a : Answer) (u : Sheet) (b : Answer) : Type 0 where
+  pub sheets : Twin t u
+  pub answers : SameAnswer c a b
 
 paired-at : {t u t′ u′ : Sheet} {c : Call} {a b : Answer} → t′ ≡ t → u′ ≡ u → Paired t c a u b → Paired t′ c a u′ b
 paired-at {t} {u} {t′} {u′} {c} {a} {b} e f p = subst (λ y. Paired y c a u′ b) (sym e) (subst (λ y. Paired t c a y b) (sym f) p)
 
-both-blank : (s t s′ t′ : Sheet) (v w : ℕ) → length s ≡ length s′ → Laid s v t → Laid s′ w t′ → Twin t t′
+pub both-blank : (s t s′ t′ : Sheet) (v w : ℕ) → length s ≡ length s′ → Laid s v t → Laid s′ w t′ → Twin t t′
 both-blank s t s′ t′ v w e d d′ = record { size = same; pegs = each }
   where
     same : length t ≡ length t′
@@ -136,28 +142,28 @@ both-entered s t s′ t′ p c v w x hp z d d′ =
     let same : d′ .function ≡ d .function = function-one (d′ .function) (d .function) (d′ .code ∙ sym (d .code)) in
     paired-at (d .sheet) (d′ .sheet ∙ ap (λ f. set s′ p (entered f x)) same) (record { sheets = twin-set s s′ p (entered (d .function) x) hp z; answers = inl (ap Ok (d .number ∙ sym (d′ .number))) })
 
-effects-twin : (s t s′ t′ : Sheet) (c d : Call) (v w : ℕ) → Twin s s′ → SameCall c d → Passes s c → Effect s c v t → Effect s′ d w t′ → Paired t c (Ok v) t′ (Ok w)
-effects-twin s t s′ t′ laying d v w z e pass x y =
+effects-twin : (s t s′ t′ : Sheet) (c d : Call) (v w : ℕ) → Twin s s′ → Near s s′ → SameCall c d → Passes s c → Effect s c v t → Effect s′ d w t′ → Paired t c (Ok v) t′ (Ok w)
+effects-twin s t s′ t′ laying d v w z near e pass x y =
     let y′ : Laid s′ w t′ = subst (λ q. Effect s′ q w t′) e y in
     record { sheets = both-blank s t s′ t′ v w (z .size) x y′; answers = inl (ap Ok (x .number ∙ z .size ∙ sym (y′ .number))) }
-effects-twin s t s′ t′ (entering p c i) d v w z e pass x y =
+effects-twin s t s′ t′ (entering p c i) d v w z near e pass x y =
     let y′ : Enters s′ p c i w t′ = subst (λ q. Effect s′ q w t′) e y in
     both-entered s t s′ t′ p c v w i (within s p (λ h. pass 8 (no-peg-to-enter h))) z x y′
-effects-twin s t s′ t′ (working f n a) d v w z e pass x y =
+effects-twin s t s′ t′ (working f n a) d v w z near e pass x y =
     let y′ : Finished s′ f n (e .0) w t′ = subst (λ q. Effect s′ q w t′) (e .1) y in
     record { sheets = both-worked s t s′ t′ f n v w a (e .0) z x y′; answers = inl (ap Ok (x .number ∙ entries-twin f n s s′ (z .size) (z .pegs) ∙ sym (y′ .number))) }
-effects-twin s t s′ t′ (reading p) d v w z e pass x y =
+effects-twin s t s′ t′ (reading p) d v w z near e pass x y =
     let y′ : Effect s′ (reading p) w t′ = subst (λ q. Effect s′ q w t′) e y in
-    paired-at (x .0) (y′ .0) (record { sheets = z; answers = inr (p, v, w, refl, refl, refl) })
-effects-twin s t s′ t′ (clearing p) d v w z e pass x y =
+    paired-at (x .0) (y′ .0) (record { sheets = z; answers = inr (record { number = p; call = refl; function = peg s p .function; input = peg s p .input; one = peg s p .figure; other = peg s′ p .figure; agree = near p; one-answer = ap Ok (x .1); other-answer = ap Ok (y′ .1) }) })
+effects-twin s t s′ t′ (clearing p) d v w z near e pass x y =
     let y′ : Effect s′ (clearing p) w t′ = subst (λ q. Effect s′ q w t′) e y in
     paired-at (x .0) (y′ .0) (record { sheets = twin-set s s′ p blank (within s p (λ h. pass 8 (no-peg-to-clear h))) z; answers = inl (ap Ok (x .1 ∙ sym (y′ .1))) })
 
-does-twin : (s t s′ t′ : Sheet) (c d : Call) (a b : Answer) → Twin s s′ → SameCall c d → Does s c a t → Does s′ d b t′ → Paired t c a t′ b
-does-twin s t s′ t′ c d (Ok v) (Ok w) z e x y = effects-twin s t s′ t′ c d v w z e (x .0) (x .1) (y .1)
-does-twin s t s′ t′ c d (Ok v) (Err f) z e x y = absurd (x .0 (numberOf f) (line-twin (twin-back z) (same-back c d e) (y .0 .fits)))
-does-twin s t s′ t′ c d (Err f) (Ok w) z e x y = absurd (y .0 (numberOf f) (line-twin z e (x .0 .fits)))
-does-twin s t s′ t′ c d (Err f) (Err g) z e x y = paired-at (x .1) (y .1) (record { sheets = z; answers = inl (ap Err (fault-one f g (first-twin z e (x .0) (y .0)))) })
+pub does-twin : (s t s′ t′ : Sheet) (c d : Call) (a b : Answer) → Twin s s′ → Near s s′ → SameCall c d → Does s c a t → Does s′ d b t′ → Paired t c a t′ b
+does-twin s t s′ t′ c d (Ok v) (Ok w) z near e x y = effects-twin s t s′ t′ c d v w z near e (x .0) (x .1) (y .1)
+does-twin s t s′ t′ c d (Ok v) (Err f) z near e x y = absurd (x .0 (numberOf f) (line-twin (twin-back z) (same-back c d e) (y .0 .fits)))
+does-twin s t s′ t′ c d (Err f) (Ok w) z near e x y = absurd (y .0 (numberOf f) (line-twin z e (x .0 .fits)))
+does-twin s t s′ t′ c d (Err f) (Err g) z near e x y = paired-at (x .1) (y .1) (record { sheets = z; answers = inl (ap Err (fault-one f g (first-twin z e (x .0) (y .0)))) })
 
 -- the size of a sheet stays
 pub does-size : (s t : Sheet) (c : Call) (a : Answer) → Does s c a t → length t ≡ length s
@@ -167,16 +173,6 @@ does-size s t (entering p c x) (Ok v) d = ap length (d .1 .sheet) ∙ length-set
 does-size s t (working f n a) (Ok v) d = d .1 .size
 does-size s t (reading p) (Ok v) d = ap length (d .1 .0)
 does-size s t (clearing p) (Ok v) d = ap length (d .1 .0) ∙ length-set s p _
-
-pub twins : {g h : History} {s t : Sheet} → Reached g s → Reached h t → SameCalls g h → length s ≡ length t → Twin s t × SameAnswers g h
-twins (laid {s = s} {t = t} {n = n} d) (laid {s = s′} {t = t′} {n = n′} d′) al e = (both-blank s t s′ t′ n n′ (sym (d .1 .size) ∙ e ∙ d′ .1 .size) (d .1) (d′ .1), tt)
-twins (laid d) (after f r g d′) al e = absurd al
-twins (after f r g d) (laid d′) al e = absurd al
-twins (after {s = s} {t = t} f r g d) (after {s = s′} {t = t′} f′ r′ g′ d′) al e =
-    let sizes : length s ≡ length s′ = sym (does-size s t _ _ d) ∙ e ∙ does-size s′ t′ _ _ d′ in
-    let before = twins r r′ (al .1) sizes in
-    let now-paired = does-twin s t s′ t′ (f .call) (f′ .call) (f .answer) (f′ .answer) (before .0) (al .0) d d′ in
-    (now-paired .sheets, (now-paired .answers, before .1))
 
 -- ---- a call has one answer and leaves one sheet
 

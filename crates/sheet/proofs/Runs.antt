@@ -22,11 +22,11 @@ use Rattle.sheet.specs.declared.peg.Peg.{Peg}
 use Rattle.sheet.specs.Functions.{curveOf, figureOf}
 use Rattle.sheet.specs.Pegs.{Sheet, Sound, peg, nought, blank, entered, worked}
 use Rattle.sheet.specs.Calls.{Call, Answer, Does, Finished, Laid, largest, laying, entering, working, reading, clearing, no-peg, too-many, not-finite, no-peg-to-enter, no-peg-to-clear}
-use Rattle.sheet.specs.Histories.{Given, Event, History, Reached, laid, after, Starts, Stands, SameCalls, SamePeg, Same, Promise, Kept}
+use Rattle.sheet.specs.Histories.{Given, Event, History, Reached, laid, after, Starts, Stands, SameCalls, SameAnswers, SamePeg, Same, Promise, Kept}
 use Rattle.sheet.proofs.Names.{cases-part, cases-T}
 use Rattle.sheet.proofs.Total.{some}
-use Rattle.sheet.proofs.Pairs.{TwinPeg, twins, within, does-size, does-once}
-use Rattle.sheet.proofs.Stories.{reached-told}
+use Rattle.sheet.proofs.Pairs.{TwinPeg, Twin, Near, within, both-blank, does-twin, does-size, does-once}
+use Rattle.sheet.proofs.Stories.{reached-told, tells-one}
 
 -- ---- what holds of each peg of a sheet that is reached
 
@@ -150,6 +150,18 @@ module _ (proved : (f : Curve) → Proved f) where
           subst (Agree c (q .input) (q .figure)) (sym fy)
           (subst (λ u. Agree c (q .input) u (figureOf (q .function) (y .0) (q .input))) (sym (x .3)) (proved c .agrees (x .0) (y .0) (x .1) (y .1) (q .input) (x .2 .held) (x .2 .number)))
 
+  pub twins : {g h : History} {s t : Sheet} → Reached g s → Reached h t → SameCalls g h → length s ≡ length t → Twin s t × SameAnswers g h
+  unfolding All
+  twins (laid {s = s} {t = t} {n = n} d) (laid {s = s′} {t = t′} {n = n′} d′) al e = (both-blank s t s′ t′ n n′ (sym (d .1 .size) ∙ e ∙ d′ .1 .size) (d .1) (d′ .1), tt)
+  twins (laid d) (after f r g d′) al e = absurd al
+  twins (after f r g d) (laid d′) al e = absurd al
+  twins (after {s = s} {t = t} f r g d) (after {s = s′} {t = t′} f′ r′ g′ d′) al e =
+      let sizes : length s ≡ length s′ = sym (does-size s t _ _ d) ∙ e ∙ does-size s′ t′ _ _ d′ in
+      let before = twins r r′ (al .1) sizes in
+      let near : Near s s′ = λ k. figures (peg s k) (peg s′ k) (before .0 .pegs k) (reached-all r k) (reached-all r′ k) in
+      let now-paired = does-twin s t s′ t′ (f .call) (f′ .call) (f .answer) (f′ .answer) (before .0) near (al .0) d d′ in
+      (now-paired .sheets, (now-paired .answers, before .1))
+
   pub same : {g h : History} {s t : Sheet} → Reached g s → Reached h t → SameCalls g h → length s ≡ length t → Same g s h t
   unfolding All
   same {s = s} {t = t} r r′ al e =
@@ -157,7 +169,7 @@ module _ (proved : (f : Curve) → Proved f) where
       record { pegs = λ k _. let z = w .0 .pegs k in record { functions = z .functions; inputs = z .inputs; marks = z .marks; figures = figures (peg s k) (peg t k) z (reached-all r k) (reached-all r′ k) }; answers = w .1 }
 
   pub promise : Promise
-  promise = record { some = some; fixed = does-once; one = λ h t r. stands r; two = λ g h s t r r′ al e. same r r′ al e }
+  promise = record { some = some; fixed = does-once; story = tells-one; one = λ h t r. stands r; two = λ g h s t r r′ al e. same r r′ al e }
 
   kept : (s : Sheet) (c : Call) (r : Answer) (t : Sheet) → Given c → Does s c r t → Kept s c r t
   kept s c r t g d =

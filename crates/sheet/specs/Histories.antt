@@ -5,7 +5,7 @@ use mathlib.Core.Logic.{_⊎_}
 use Prim.Native.Nat.{ℕ, _≤_, _<_}
 use lib.Dec.{T}
 use lib.ListN.{length}
-use lib.Ieee.{Float, binary32, fits}
+use lib.Ieee.{Float, binary32, fits, toBits}
 use Rattle.std.specs.declared.result.Result.the-variants.{Ok, Err}
 use Rattle.arithmetic.specs.Arithmetic.{Arithmetic, Lawful}
 use Rattle.accuracy.specs.Figures.{Agree}
@@ -78,9 +78,21 @@ SameCalls [] (f ∷ h) = ⊥
 SameCalls (e ∷ g) [] = ⊥
 SameCalls (e ∷ g) (f ∷ h) = SameCall (e .call) (f .call) × SameCalls g h
 
+-- two reads return the patterns of two figures that agree
+pub record ReadBoth (c : Call) (a b : Answer) : Type 0 where
+  pub number : ℕ
+  pub call : c ≡ reading number
+  pub function : Function
+  pub input : Float
+  pub one : Float
+  pub other : Float
+  pub agree : Agree (curveOf function) input one other
+  pub one-answer : a ≡ Ok (toBits binary32 one)
+  pub other-answer : b ≡ Ok (toBits binary32 other)
+
 -- equal answers, save the patterns that two reads return
 abbrev pub SameAnswer : Call → Answer → Answer → Type 0
-SameAnswer c a b = (a ≡ b) ⊎ ((p v w : ℕ) × (c ≡ reading p) × (a ≡ Ok v) × (b ≡ Ok w))
+SameAnswer c a b = (a ≡ b) ⊎ ReadBoth c a b
 
 abbrev pub SameAnswers : History → History → Type 0
 SameAnswers [] [] = Unit {0}
@@ -100,11 +112,12 @@ pub record Same (g : History) (s : Sheet) (h : History) (t : Sheet) : Type 0 whe
   pub pegs : (k : ℕ) → k < length s → SamePeg (peg s k) (peg t k)
   pub answers : SameAnswers g h
 
--- The promise, of every list of calls, refused ones included: each call has one answer and leaves one sheet; every sheet that a
--- history leads to stands; and two histories of the same calls on sheets of one size agree.
+-- The promise, of every list of calls, refused ones included: each call has one answer and leaves one sheet; a history tells one
+-- thing of a peg; every sheet that a history leads to stands; and two histories of the same calls on sheets of one size agree.
 pub record Promise : Type 0 where
   pub some : (s : Sheet) (c : Call) → (a : Answer) × (t : Sheet) × Does s c a t
   pub fixed : (s t u : Sheet) (c : Call) (a b : Answer) → Does s c a t → Does s c b u → (a ≡ b) × (t ≡ u)
+  pub story : (h : History) (k : ℕ) (q r : Peg) → Tells h k q → Tells h k r → q ≡ r
   pub one : (h : History) (t : Sheet) → Reached h t → Stands h t
   pub two : (g h : History) (s t : Sheet) → Reached g s → Reached h t → SameCalls g h → length s ≡ length t → Same g s h t
 
