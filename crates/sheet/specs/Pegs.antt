@@ -1,17 +1,19 @@
 -- A sheet is a list of pegs: blank, entered or worked.
 use mathlib.Core.Path.{_≡_}
+use mathlib.Core.Bool.{true, false}
 use mathlib.Core.List.{List}
 use Prim.Native.Nat.{ℕ, _≤_, _<_}
 use lib.Dec.{T}
 use lib.ListN.{length, getD}
 use lib.Ieee.{Float, binary32, ofBits}
 use lib.Ieee.Scale.{finite}
+use Rattle.std.specs.Floats.{finite as isFinite}
 use Rattle.std.specs.declared.result.Result.{Result}
 use Rattle.std.specs.declared.result.Result.the-variants.{Ok, Err}
 use Rattle.arithmetic.specs.Arithmetic.{Arithmetic}
 use Rattle.accuracy.specs.Figures.{Right, Exactly}
 use Rattle.sheet.specs.declared.fault.Fault.{Fault}
-use Rattle.sheet.specs.declared.fault.Fault.the-variants.{PegNumber}
+use Rattle.sheet.specs.declared.fault.Fault.the-variants.{InputNotFinite, PegNumber}
 use Rattle.sheet.specs.declared.function.Function.{Function}
 use Rattle.sheet.specs.declared.function.Function.the-variants.{Exp}
 use Rattle.sheet.specs.declared.peg.Mark.{Mark}
@@ -45,6 +47,11 @@ peg s k = getD s k blank
 abbrev pub Found : Sheet → ℕ → Result Peg Fault → Type 0
 Found s k (Ok q) = (k < length s) × (q ≡ peg s k)
 Found s k (Err e) = (length s ≤ k) × (e ≡ PegNumber)
+
+-- an input is finite, or refused
+abbrev pub Checked : Float → Result (Unit {0}) Fault → Type 0
+Checked x (Ok u) = isFinite x ≡ true
+Checked x (Err e) = (isFinite x ≡ false) × (e ≡ InputNotFinite)
 
 -- the rules of a peg, by its mark
 pub record Sound (q : Peg) : Type 0 where

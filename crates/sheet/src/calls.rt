@@ -2,7 +2,7 @@
 ghost use mathlib.Core.Path.{_≡_};
 ghost use Prim.Native.Nat.{_<_};
 ghost use lib.ListN.{length};
-ghost use Rattle.sheet.specs.Pegs.{Found, peg as pegOf};
+ghost use Rattle.sheet.specs.Pegs.{Checked, Found, peg as pegOf};
 ghost use Rattle.sheet.specs.Calls.{Does, AllBlank, Turned, Sized, laying, entering, working, reading, clearing};
 ghost use Rattle.sheet.specs.Histories.{Kept, Starts};
 use crate::fault::Fault;
@@ -60,15 +60,23 @@ pub fn lay(sheet: &mut [Peg]) -> Result<u32, Fault>
     Ok(n)
 }
 
+fn must_be_finite(input: f32) -> Result<(), Fault>
+    ensures { λ r. ⌜ Checked input r ⌝ }
+{
+    if input.is_finite() {
+        Ok(())
+    } else {
+        Err(Fault::InputNotFinite)
+    }
+}
+
 // Gives a blank peg a function and an input.
 pub fn enter(sheet: &mut [Peg], peg: u16, code: u8, input: f32) -> Result<u32, Fault>
     ensures does { λ r. ⌜ Does (now (sheet .entry)) (entering peg code input) r (now (sheet .exit)) ⌝ }
     ensures kept { λ r. ⌜ Kept (now (sheet .entry)) (entering peg code input) r (now (sheet .exit)) ⌝ }
 {
     let function = Function::of_code(code)?;
-    if !input.is_finite() {
-        return Err(Fault::InputNotFinite);
-    }
+    must_be_finite(input)?;
     let found = find(sheet, peg)?;
     match found.mark() {
         Mark::Blank => {}
