@@ -9,7 +9,7 @@ use curves::exp10f::Exp10Curve;
 use curves::expf::ExpCurve;
 use curves::expm1f::Expm1Curve;
 
-#[derive(Clone, Copy, Debug, PartialEq, Eq)]
+#[derive(Clone, Copy)]
 pub enum Function {
     Exp,
     Exp2,

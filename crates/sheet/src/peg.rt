@@ -6,7 +6,7 @@ use crate::function::Function;
 use arithmetic::ExpfBackend;
 use std::num::f32_to_bits_with_nan;
 
-#[derive(Clone, Copy, Debug, PartialEq, Eq)]
+#[derive(Clone, Copy)]
 pub enum Mark {
     Blank,
     Entered,

@@ -11,9 +11,6 @@ use crate::calls::read;
 use crate::calls::size;
 use crate::calls::work;
 use crate::fault::Fault;
-use crate::fault::FaultDebug;
-use crate::fault::FaultEq;
-use crate::fault::FaultPartialEq;
 use crate::peg::Peg;
 use arithmetic::ExpfBackend;
 
@@ -25,7 +22,7 @@ pub fn promise_holds() -> u8
 }
 
 // A call, but for the sheet and the arithmetic that it is made with.
-#[derive(Clone, Copy, Debug)]
+#[derive(Clone, Copy)]
 pub enum Command {
     Lay,
     Enter { peg: u16, code: u8, input: f32 },
@@ -78,7 +75,7 @@ pub struct TwinStep<A, B> {
 }
 
 // Which of two sheets cannot be laid, and why.
-#[derive(Clone, Copy, Debug, PartialEq, Eq)]
+#[derive(Clone, Copy)]
 pub enum LayFault {
     Left(Fault),
     Right(Fault),
