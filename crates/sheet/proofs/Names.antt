@@ -11,7 +11,6 @@ use mathlib.Core.Bool.{Bool, true, false}
 use Rattle.std.specs.Floats.{finite as isFinite}
 use Rattle.std.proofs.shelf.Tests.{cases-lt}
 use Rattle.sheet.specs.declared.fault.Fault.{Fault}
-use Rattle.sheet.specs.declared.fault.Fault.the-variants.{SheetSize, RunFull, CardLength, UnusedField, PartRange, FunctionCode, InputNotFinite, PegNumber, PegNotBlank, PegBlank, PegNotWorked}
 use Rattle.sheet.specs.declared.function.Function.{Function}
 use Rattle.sheet.specs.declared.function.Function.the-variants.{Exp, Exp2, Exp10, Expm1}
 use Rattle.sheet.specs.declared.peg.Mark.{Mark}

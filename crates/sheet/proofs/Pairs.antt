@@ -1,23 +1,21 @@
 -- Two sheets with equal functions, inputs and marks: the same call answers alike and leaves two such sheets. So a call has one answer.
 use mathlib.Core.Path.{_≡_, refl, sym, ap, subst, _∙_}
-use mathlib.Core.List.{List, [], _∷_}
+use mathlib.Core.List.{[], _∷_}
 use mathlib.Core.Logic.{_⊎_, inl, inr, ⊎-elim}
-use Prim.Native.Nat.{ℕ, zero, suc, _+_, _≤_, _<_}
+use Prim.Native.Nat.{ℕ, zero, suc, _≤_, _<_}
 use native.Mathlib.Omega.{arith}
 use lib.ListN.{length, getD, set, take, drop}
-use lib.Ieee.{Float, binary32, toBits}
+use lib.Ieee.{Float}
 use Rattle.std.specs.declared.result.Result.the-variants.{Ok, Err}
 use Rattle.std.proofs.shelf.Lists.{getD-default, getD-past, getD-set-same, getD-set-other, length-set, same-lists}
 use Rattle.std.proofs.shelf.Tests.{cases-eq, cases-lt, cases-order}
 use Rattle.arithmetic.specs.Arithmetic.{Arithmetic}
 use Rattle.accuracy.specs.Figures.{Agree}
-use Rattle.sheet.specs.declared.function.Function.{Function}
-use Rattle.sheet.specs.declared.peg.Mark.the-variants.{Blank, Entered}
 use Rattle.sheet.specs.declared.peg.Peg.{Peg}
 use Rattle.sheet.specs.Faults.{numberOf}
 use Rattle.sheet.specs.Functions.{curveOf}
-use Rattle.sheet.specs.Pegs.{Sheet, peg, blank, entered, worked}
-use Rattle.sheet.specs.Calls.{Call, Answer, Does, Effect, Line, Refuses, Passes, Laid, Enters, Finished, Part, entries, isEntered, laying, entering, working, reading, clearing, no-peg, too-many, beyond, no-code, not-finite, no-peg-to-enter, no-peg-to-read, no-peg-to-clear, not-blank, blank-to-read, blank-to-clear, not-worked}
+use Rattle.sheet.specs.Pegs.{Sheet, peg, blank, entered}
+use Rattle.sheet.specs.Calls.{Call, Answer, Does, Effect, Line, Refuses, Passes, Laid, Enters, Finished, entries, isEntered, laying, entering, working, reading, clearing, no-peg, too-many, beyond, no-code, not-finite, no-peg-to-enter, no-peg-to-read, no-peg-to-clear, not-blank, blank-to-read, blank-to-clear, not-worked}
 use Rattle.sheet.specs.Histories.{SameCall, SameAnswer}
 use Rattle.sheet.proofs.Names.{cases-part, fault-one, function-one}
 

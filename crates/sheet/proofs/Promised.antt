@@ -1,7 +1,7 @@
 -- The promise, from the theorems of the four curves: the one place that names them.
 use mathlib.Core.Path.{_≡_, refl, sym, subst}
 use lib.ListN.{length}
-use Rattle.std.specs.declared.result.Result.the-variants.{Ok, Err}
+use Rattle.std.specs.declared.result.Result.the-variants.{Err}
 use Rattle.accuracy.proofs.Proved.{proved}
 use Rattle.sheet.specs.declared.fault.Fault.{Fault}
 use Rattle.sheet.specs.Faults.{numberOf}

@@ -1,8 +1,8 @@
 -- Every history keeps the promise, once the four curves are proved.
 use mathlib.Core.Path.{_≡_, refl, sym, ap, subst, _∙_}
-use mathlib.Core.List.{[], _∷_}
+use mathlib.Core.List.{_∷_}
 use mathlib.Core.Logic.{_⊎_, inl, inr, ⊎-elim}
-use Prim.Native.Nat.{ℕ, _+_, _≤_, _<_}
+use Prim.Native.Nat.{ℕ, _≤_, _<_}
 use native.Mathlib.Omega.{arith}
 use lib.Dec.{T}
 use lib.ListN.{length, getD, set}
@@ -22,7 +22,7 @@ use Rattle.sheet.specs.declared.peg.Peg.{Peg}
 use Rattle.sheet.specs.Functions.{curveOf, figureOf}
 use Rattle.sheet.specs.Pegs.{Sheet, Sound, peg, nought, blank, entered, worked}
 use Rattle.sheet.specs.Calls.{Call, Answer, Does, Finished, Laid, largest, laying, entering, working, reading, clearing, no-peg, too-many, not-finite, no-peg-to-enter, no-peg-to-clear}
-use Rattle.sheet.specs.Histories.{Given, Event, History, Reached, laid, after, Starts, Stands, SameCalls, SameAnswers, SamePeg, Same, Promise, Kept}
+use Rattle.sheet.specs.Histories.{Given, History, Reached, laid, after, Starts, Stands, SameCalls, SameAnswers, Same, Promise, Kept}
 use Rattle.sheet.proofs.Names.{cases-part, cases-T}
 use Rattle.sheet.proofs.Total.{some}
 use Rattle.sheet.proofs.Pairs.{TwinPeg, Twin, Near, within, both-blank, does-twin, does-size, does-once}

@@ -5,15 +5,13 @@ use Prim.Native.Nat.{ℕ, zero, suc, _+_, _≤_, _<_}
 use native.Mathlib.Omega.{arith}
 use lib.ListN.{length, getD, set, take}
 use lib.Seq.{take-all}
-use Rattle.std.specs.declared.result.Result.the-variants.{Ok}
 use Rattle.std.proofs.shelf.Lists.{map-append, reverse-append, take-more-set}
 use Rattle.arithmetic.specs.Arithmetic.{Arithmetic}
 use Rattle.sheet.specs.declared.replay.Command.{Command}
 use Rattle.sheet.specs.declared.replay.Command.the-variants.{Lay, Enter, Work, Read, Clear}
 use Rattle.sheet.specs.declared.replay.TwinStep.{TwinStep}
 use Rattle.sheet.specs.Pegs.{Sheet}
-use Rattle.sheet.specs.Calls.{Call, Answer, Does, laying}
-use Rattle.sheet.specs.Histories.{Event, History, Reached, Kept, SameCall, SameCalls, Same}
+use Rattle.sheet.specs.Histories.{Event, History, Reached, Kept, SameCall, SameCalls}
 use Rattle.sheet.specs.Lists.{callOf, leftEvent, rightEvent, historyOf, callsOf, CarriedOut, BothCarriedOut}
 use Rattle.sheet.proofs.Promised.{stands, same}
 

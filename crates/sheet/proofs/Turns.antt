@@ -1,7 +1,7 @@
 -- The turns of a work.
 use mathlib.Core.Path.{_≡_, refl, sym, ap, subst, _∙_}
-use mathlib.Core.List.{List, [], _∷_}
-use mathlib.Core.Logic.{_⊎_, inl, inr, ⊎-elim}
+use mathlib.Core.List.{[], _∷_}
+use mathlib.Core.Logic.{_⊎_, ⊎-elim}
 use Prim.Native.Nat.{ℕ, zero, suc, _+_, _≤_, _<_}
 use native.Mathlib.Omega.{arith}
 use lib.ListN.{length, set, take, drop}
@@ -10,7 +10,6 @@ use Rattle.std.proofs.shelf.Tests.{cases-eq}
 use Rattle.arithmetic.specs.Arithmetic.{Arithmetic}
 use Rattle.sheet.specs.declared.peg.Mark.{Mark}
 use Rattle.sheet.specs.declared.peg.Mark.the-variants.{Blank, Entered, Worked}
-use Rattle.sheet.specs.declared.peg.Peg.{Peg}
 use Rattle.sheet.specs.Pegs.{Sheet, peg, blank, worked}
 use Rattle.sheet.specs.Calls.{Finished, Turned, Part, entries, isEntered}
 use Rattle.sheet.proofs.Names.{cases-entered}

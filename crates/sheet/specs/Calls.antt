@@ -1,6 +1,6 @@
 -- The calls on a sheet, the lines that refuse one, and what one does.
 use mathlib.Core.Path.{_≡_}
-use mathlib.Core.List.{List, [], _∷_}
+use mathlib.Core.List.{[], _∷_}
 use Prim.Native.Nat.{ℕ, _+_, _≤_, _<_}
 use lib.Dec.{T}
 use lib.ListN.{length, set, take, drop}
@@ -10,7 +10,6 @@ use Rattle.std.specs.declared.result.Result.{Result}
 use Rattle.std.specs.declared.result.Result.the-variants.{Ok, Err}
 use Rattle.arithmetic.specs.Arithmetic.{Arithmetic}
 use Rattle.sheet.specs.declared.fault.Fault.{Fault}
-use Rattle.sheet.specs.declared.fault.Fault.the-variants.{SheetSize}
 use Rattle.sheet.specs.declared.function.Function.{Function}
 use Rattle.sheet.specs.declared.peg.Mark.{Mark}
 use Rattle.sheet.specs.declared.peg.Mark.the-variants.{Blank, Entered, Worked}

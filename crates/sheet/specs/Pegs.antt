@@ -16,7 +16,6 @@ use Rattle.sheet.specs.declared.fault.Fault.{Fault}
 use Rattle.sheet.specs.declared.fault.Fault.the-variants.{InputNotFinite, PegNumber}
 use Rattle.sheet.specs.declared.function.Function.{Function}
 use Rattle.sheet.specs.declared.function.Function.the-variants.{Exp}
-use Rattle.sheet.specs.declared.peg.Mark.{Mark}
 use Rattle.sheet.specs.declared.peg.Mark.the-variants.{Blank, Entered, Worked}
 use Rattle.sheet.specs.declared.peg.Peg.{Peg}
 use Rattle.sheet.specs.Functions.{curveOf, figureOf}

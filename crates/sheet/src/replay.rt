@@ -1,5 +1,4 @@
 // Lists of calls, carried out one after the other.
-ghost use mathlib.Core.Path.{_≡_};
 ghost use Rattle.sheet.specs.Calls.{Does};
 ghost use Rattle.sheet.specs.Histories.{Kept, Promise};
 ghost use Rattle.sheet.specs.Lists.{callOf, Replayed, BothLaid, BothReplayed};

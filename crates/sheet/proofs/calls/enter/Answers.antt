@@ -1,4 +1,4 @@
-use mathlib.Core.Path.{_≡_, refl, ap, sym, subst, _∙_}
+use mathlib.Core.Path.{refl, ap, sym, subst, _∙_}
 use Prim.Native.Nat.{_≤_}
 use lib.Dec.{T}
 use lib.ListN.{set}

@@ -1,7 +1,7 @@
-use mathlib.Core.Path.{refl, ap, sym, _∙_}
+use mathlib.Core.Path.{refl, ap, _∙_}
 use lib.Ieee.{binary32, toBits}
 use Rattle.std.proofs.shelf.Results.{err-from-errBy}
-use Rattle.std.specs.declared.result.Result.the-variants.{Ok, Err}
+use Rattle.std.specs.declared.result.Result.the-variants.{Err}
 use Rattle.sheet.specs.declared.fault.Fault.the-variants.{PegNumber}
 use Rattle.sheet.proofs.Names.{marked}
 use Rattle.sheet.proofs.Lines.{read-number, read-blank, read-entered, read-passes}

@@ -1,9 +1,9 @@
-use mathlib.Core.Path.{_≡_, refl, ap, sym, subst, _∙_}
-use Prim.Native.Nat.{_+_, _-_, _<_, _≤_, suc}
+use mathlib.Core.Path.{_≡_, refl, subst}
+use Prim.Native.Nat.{_+_, _-_, _<_, suc}
 use native.Mathlib.Omega.{arith}
 use lib.ListN.{length, drop}
 use Rattle.std.specs.declared.result.Result.the-variants.{Ok}
-use Rattle.sheet.specs.Calls.{Finished, Does, working}
+use Rattle.sheet.specs.Calls.{Finished, working}
 use Rattle.sheet.proofs.Lines.{work-refused, work-passes}
 use Rattle.sheet.proofs.Turns.{finished-none, finished-more, turned-few, entries-few}
 use Rattle.sheet.proofs.Promised.{both}
