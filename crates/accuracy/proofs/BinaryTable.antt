@@ -47,7 +47,7 @@ use Rattle.curves.proofs.PowerRow.{entry-from-one, scaled-row}
 use Rattle.accuracy.proofs.Outcome.{Near, near-positive, nearer, close, Wide}
 use Rattle.accuracy.proofs.PowerInputs.{exp2-finite, exp2-size, exp2-away}
 use Rattle.accuracy.proofs.PowerProduct.{Coefficients}
-use Rattle.accuracy.proofs.PowerTable.{part-split, Approximates, table-near, table-finite, table-low}
+use Rattle.accuracy.proofs.PowerTable.{part-split, Approximates, mh-low, mh-high, table-near, table-finite, table-low}
 use Rattle.accuracy.proofs.PowerRows.{entry-rule}
 
 -- ---- the coefficients
@@ -218,6 +218,12 @@ module _ (a : Arithmetic) (v : Lawful a) (x : Float) (w : T (fits binary32 x)) (
       subst (λ (u : ℚ). Bound (val x *q low binary (from 80 j) -q u) (dy 1 58)) (sym e)
       (subst (λ (u : ℚ). Bound u (dy 1 58)) (qring (x₀ ⊗ (x₁ ⊖ x₂)) (x₀ ⊗ x₁ ⊖ x₀ ⊗ x₂) refl (val x ∷ low binary (from 80 j) ∷ L ∷ []))
       (bound-more (bound-mul (exp2-size x w t) (low-near-root binary j)) (nums .7)))
+
+  pub hi-low : dy 1 160 ≤q val (hi a x)
+  hi-low = mh-low binary (dy 1 7) (nums .9) k₀ k₁ k₂ k₃ k₄ coefficients approximates (a .fma) (fma-law a v) (lo a x) (hi a x) lo-ready lo-size (shrZ (k a x) 64) (powers-small (k a x) powers) (row exp2fTable (rowOf 64 (k a x))) _ (entry-rule (rowOf 64 (k a x)) (powers .row)) (hi-scaled .0) (hi-scaled .1)
+
+  pub hi-high : val (hi a x) ≤q ofℕ (2 ^ 160)
+  hi-high = mh-high binary (dy 1 7) (nums .9) k₀ k₁ k₂ k₃ k₄ coefficients approximates (a .fma) (fma-law a v) (lo a x) (hi a x) lo-ready lo-size (shrZ (k a x) 64) (powers-small (k a x) powers) (row exp2fTable (rowOf 64 (k a x))) _ (entry-rule (rowOf 64 (k a x)) (powers .row)) (hi-scaled .0) (hi-scaled .1)
 
   pub wide-low : dy 1 162 ≤q val wide
   wide-low = table-low binary (dy 1 7) (nums .9) k₀ k₁ k₂ k₃ k₄ coefficients approximates (a .fma) (fma-law a v) (lo a x) (hi a x) lo-ready lo-size (shrZ (k a x) 64) (powers-small (k a x) powers) (row exp2fTable (rowOf 64 (k a x))) _ (entry-rule (rowOf 64 (k a x)) (powers .row)) (hi-scaled .0) (hi-scaled .1)

@@ -37,7 +37,7 @@ use Rattle.curves.proofs.Decimal.{step, mostLo, Ready, Input, input, input-size
 use Rattle.curves.proofs.Law.{fma-law, near-whole}
 use Rattle.accuracy.proofs.Outcome.{Near, near-positive, nearer, close, Wide}
 use Rattle.accuracy.proofs.PowerProduct.{Coefficients}
-use Rattle.accuracy.proofs.PowerTable.{part-split, Approximates, table-near, table-finite, table-low}
+use Rattle.accuracy.proofs.PowerTable.{part-split, Approximates, mh-low, mh-high, table-near, table-finite, table-low}
 use Rattle.accuracy.proofs.PowerRows.{mid-rule}
 
 -- ---- the coefficients
@@ -145,7 +145,7 @@ module _ (a : Arithmetic) (v : Lawful a) (x : Float) (w : T (fits binary32 x)) (
   k-bound : Bound (ofℤ (k a x)) (ofℕ 4923)
   k-bound = subst (λ (u : ℚ). Bound u (ofℕ 4923)) vk (k-size (a .fma) (fma-law a v) x (kd a x) (k a x) (input-ready x (input x w t) w) (input-size x (input x w t)) (near-k .is-finite) (near-k .is-fit) vk (near-k .off))
 
-  row-scaled : T (finite (hi a x)) × (val (hi a x) ≡ val (row exp2Mid (rowOf 32 (k a x))) *q cls (power (shrZ (k a x) 32)))
+  pub row-scaled : T (finite (hi a x)) × (val (hi a x) ≡ val (row exp2Mid (rowOf 32 (k a x))) *q cls (power (shrZ (k a x) 32)))
   row-scaled = hi-scaled x (input x w t) w a v
 
   abbrev pub wide : Float
@@ -163,6 +163,12 @@ module _ (a : Arithmetic) (v : Lawful a) (x : Float) (w : T (fits binary32 x)) (
     where
       ring : (x l e o k m v : ℚ) → x *q (l -q e) +q (-q_ ((o -q (x +q k *q m)) *q e) +q -q_ (k *q (m *q e +q v))) ≡ x *q l -q (k *q v +q o *q e)
       ring x l e o k m v = unfold norm _-q_ in qring (x₀ ⊗ (x₁ ⊖ x₂) ⊕ (⊝ ((x₃ ⊖ (x₀ ⊕ x₄ ⊗ x₅)) ⊗ x₂) ⊕ ⊝ (x₄ ⊗ (x₅ ⊗ x₂ ⊕ x₆)))) (x₀ ⊗ x₁ ⊖ (x₄ ⊗ x₆ ⊕ x₃ ⊗ x₂)) refl (x ∷ l ∷ e ∷ o ∷ k ∷ m ∷ v ∷ [])
+
+  pub hi-low : dy 1 160 ≤q val (hi a x)
+  hi-low = mh-low decimal mostLo (nums .1) k₀ k₁ k₂ k₃ k₄ coefficients approximates (a .fma) (fma-law a v) (lo a x) (hi a x) lo-fine lo-small (shrZ (k a x) 32) (powers-small (k a x) powers) (row exp2Mid (rowOf 32 (k a x))) _ (mid-rule (rowOf 32 (k a x)) (powers .row)) (row-scaled .0) (row-scaled .1)
+
+  pub hi-high : val (hi a x) ≤q ofℕ (2 ^ 160)
+  hi-high = mh-high decimal mostLo (nums .1) k₀ k₁ k₂ k₃ k₄ coefficients approximates (a .fma) (fma-law a v) (lo a x) (hi a x) lo-fine lo-small (shrZ (k a x) 32) (powers-small (k a x) powers) (row exp2Mid (rowOf 32 (k a x))) _ (mid-rule (rowOf 32 (k a x)) (powers .row)) (row-scaled .0) (row-scaled .1)
 
   pub wide-low : dy 1 162 ≤q val wide
   wide-low = table-low decimal mostLo (nums .1) k₀ k₁ k₂ k₃ k₄ coefficients approximates (a .fma) (fma-law a v) (lo a x) (hi a x) lo-fine lo-small (shrZ (k a x) 32) (powers-small (k a x) powers) (row exp2Mid (rowOf 32 (k a x))) _ (mid-rule (rowOf 32 (k a x)) (powers .row)) (row-scaled .0) (row-scaled .1)

@@ -18,3 +18,4 @@ pub mod Neighbours
 pub mod NearOne
 pub mod TenPowers
 pub mod Decimal
+pub mod PowerArguments
