@@ -1,12 +1,11 @@
 -- exp2 by its table: the f64 before the narrowing is within 2 ^ -43 of 2 ^ x, relative to it, under every lawful arithmetic.
-use mathlib.Core.Path.{_≡_, refl, sym, ap, ap₂, _∙_, subst}
-use mathlib.Core.List.{List, [], _∷_}
+use mathlib.Core.Path.{_≡_, refl, sym, ap, _∙_, subst}
+use mathlib.Core.List.{[], _∷_}
 use mathlib.Core.Logic.{inr}
-use Prim.Native.Nat.{ℕ, zero, suc, _+_, _-_, _*_, _/_, _%_, _^_, _≤_, _<_}
+use Prim.Native.Nat.{ℕ, _+_, _-_, _*_, _^_, _≤_}
 use native.Mathlib.Nat.{zero-lt-suc, le-trans}
 use native.Mathlib.Omega.{arith}
 use lib.Dec.{T, lit≤}
-use lib.Pow.{pow-pos}
 use lib.IntN.{ℤ, pos, negsuc, negℤ, natAbs, _+ℤ_, _*ℤ_}
 use lib.Signed.{_≤ℤ_, shrZ}
 use lib.Ieee.{Float, binary32, binary64, mul, neg, ofBits, fits}
@@ -14,16 +13,16 @@ use lib.Ieee.Fits.{mul-fits, fits-widens}
 use lib.Ieee.Scale.{finite}
 use borrow.Author.Differences.{ints}
 use std.Quotient.{cls}
-use Rattle.exact.specs.Fraction.{Fraction, dyadic, difference, integer}
-use Rattle.exact.specs.Logarithm.{Base, binary}
+use Rattle.exact.specs.Fraction.{dyadic}
+use Rattle.exact.specs.Logarithm.{binary}
 use Rattle.exact.specs.Exact.{exp2}
-use Rattle.exact.proofs.Ring.{con, _⊕_, _⊖_, _⊗_, ⊝, norm}
-use Rattle.exact.proofs.Integer.{zring, x₀, x₁, x₂, x₃, x₄}
+use Rattle.exact.proofs.Ring.{_⊕_, _⊖_, _⊗_, ⊝, norm}
+use Rattle.exact.proofs.Integer.{x₀, x₁, x₂, x₃}
 use Rattle.exact.proofs.Rational.{ℚ, is, _+q_, _*q_, -q_, _-q_, ofℤ, qring}
-use Rattle.exact.proofs.Order.{nn, _≤q_, q-refl, q-trans}
+use Rattle.exact.proofs.Order.{nn, _≤q_, q-trans}
 use Rattle.exact.proofs.Bound.{ofℕ, inv, nn-le, le-nn, Bound, bound-more, bound-add, bound-mul, bound-neg}
 use Rattle.exact.proofs.Compare.{diff-cls, integer-cls, abs-in, fr, nn-dy}
-use Rattle.exact.proofs.Series.{term, S, R, from}
+use Rattle.exact.proofs.Series.{term, S, from}
 use Rattle.exact.proofs.Logarithm.{root, low, low-near-root}
 use Rattle.rounding.specs.Values.{value}
 use Rattle.rounding.specs.Ranges.{Ranged, Permitted}
@@ -31,18 +30,18 @@ use Rattle.rounding.specs.Units.{power}
 use Rattle.rounding.proofs.Fractions.{dy}
 use Rattle.rounding.proofs.Value.{val, val-value, mul-rounds}
 use Rattle.rounding.proofs.Error.{eps, tiny, round-err}
-use Rattle.rounding.proofs.Multiple.{Mult, mult-more, mult-mul, mult-add, mult-whole, Away}
+use Rattle.rounding.proofs.Multiple.{Mult, mult-more, mult-add, mult-whole}
 use Rattle.rounding.proofs.Held.{coarse}
-use Rattle.rounding.proofs.Range.{FmaLaw, permitted-fits, ranged-finite}
+use Rattle.rounding.proofs.Range.{permitted-fits, ranged-finite}
 use Rattle.rounding.proofs.WholeNumber.{NearWhole}
 use Rattle.arithmetic.specs.Arithmetic.{Arithmetic, Lawful, RoundsAway}
 use Rattle.curves.specs.Tables.{exp2fTable}
-use Rattle.curves.specs.Steps.{double, row, rowOf, scaledRow, timesPower}
-use Rattle.curves.specs.Exp2.{kd, k, lo, hi, exp2Table, Exp2Reaches}
+use Rattle.curves.specs.Steps.{double, row, rowOf, timesPower}
+use Rattle.curves.specs.Exp2.{kd, k, lo, hi, Exp2Reaches}
 use Rattle.curves.specs.Split.{Splits, InPowers}
 use Rattle.curves.proofs.Binary.{exp2-splits}
 use Rattle.curves.proofs.Decimal.{Ready, ready-range}
-use Rattle.curves.proofs.Law.{finite-in, finite-out, fma-law, in-range, near-whole}
+use Rattle.curves.proofs.Law.{finite-out, fma-law, in-range, near-whole}
 use Rattle.curves.proofs.PowerRow.{entry-from-one, scaled-row}
 use Rattle.accuracy.proofs.Outcome.{Near, near-positive, nearer, close, Wide}
 use Rattle.accuracy.proofs.PowerInputs.{exp2-finite, exp2-size, exp2-away}

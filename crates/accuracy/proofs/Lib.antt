@@ -19,3 +19,4 @@ pub mod NearOne
 pub mod TenPowers
 pub mod Decimal
 pub mod PowerArguments
+pub mod PowerBounds

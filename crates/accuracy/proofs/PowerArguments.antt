@@ -1,19 +1,13 @@
 -- Every argument that exp2 and exp10 hand to fma and to round lies in the ranges of the law, for every input that reaches it.
-use mathlib.Core.Path.{_≡_, refl, sym, ap, _∙_, subst}
 use Prim.Native.Nat.{_≤_}
 use lib.Dec.{T}
 use lib.Ieee.{Float, binary32, binary64, fits, mul}
 use lib.Ieee.Fits.{mul-fits}
 use lib.Ieee.Scale.{finite}
-use Rattle.exact.specs.Logarithm.{binary}
-use Rattle.exact.proofs.Rational.{ℚ, _+q_, -q_, _-q_}
-use Rattle.exact.proofs.Order.{nn, _≤q_, q-trans}
-use Rattle.exact.proofs.Bound.{Bound, bound-more}
-use Rattle.rounding.specs.Ranges.{Ranged}
+use Rattle.exact.proofs.Rational.{_+q_, -q_, _-q_}
+use Rattle.exact.proofs.Order.{nn, _≤q_}
+use Rattle.exact.proofs.Bound.{bound-more}
 use Rattle.rounding.proofs.Fractions.{dy}
-use Rattle.rounding.proofs.Value.{val}
-use Rattle.rounding.proofs.WholeNumber.{NearWhole}
-use Rattle.rounding.proofs.Patterns.{sized}
 use Rattle.arithmetic.specs.Arithmetic.{Arithmetic, Lawful}
 use Rattle.curves.specs.Steps.{magnitude, double}
 use Rattle.curves.specs.Exp2 as Exp2
@@ -24,19 +18,16 @@ use Rattle.curves.proofs.Decimal as Reduction
 use Rattle.curves.proofs.Law.{fma-law, small-in-range, near-whole}
 use Rattle.accuracy.specs.PowerArguments.{Exp2TableArguments, Exp2Arguments, Exp10TableArguments, Exp10Arguments, SixArguments, SevenArguments}
 use Rattle.accuracy.proofs.NearZero.{x-range, square-range}
-use Rattle.accuracy.proofs.PowerInputs.{size-up-to}
+use Rattle.accuracy.proofs.PowerInputs.{near-zero}
 use Rattle.accuracy.proofs.PowerProduct.{unit-range, handed, product-arguments}
 use Rattle.accuracy.proofs.BinaryPolynomial as Six
 use Rattle.accuracy.proofs.DecimalPolynomial as Seven
 use Rattle.accuracy.proofs.BinaryTable as Binary
 use Rattle.accuracy.proofs.DecimalTable as Decimal
 
-nums : (sized 0x3d00_0000 ≤q dy 1 5) × (Reduction.mostLo ≤q dy 1 7)
+lo-nums : Reduction.mostLo ≤q dy 1 7
 unfolding nn _-q_ _+q_ -q_
-nums = (record { le = tt }, record { le = tt })
-
-near-zero : (x : Float) → T (fits binary32 x) → T (finite x) → magnitude x ≤ 0x3d00_0000 → Bound (val x) (dy 1 5)
-near-zero x w t h = bound-more (size-up-to x w t 0x3d00_0000 h) (nums .0)
+lo-nums = record { le = tt }
 
 -- ---- exp2
 exp2-table : (a : Arithmetic) → Lawful a → (x : Float) → T (fits binary32 x) → Exp2Reaches x → Exp2TableArguments a x
@@ -78,7 +69,7 @@ exp10-table a v x w t =
       nearest = record { fit = mul-fits binary64 Exp10.log2Ten x; range = small-in-range _ (Reduction.product-err x (i .is-finite) bx .0) (Reduction.product-size x (i .is-finite) bx) };
       first-step = handed kr (Reduction.constants-ranged .0) (Reduction.x-range (a .fma) f x (Exp10.kd a x) (Exp10.k a x) rx bx (n .is-finite) (n .is-fit) vk (n .off));
       second-step = handed kr (Reduction.constants-ranged .1) (Reduction.first-range (a .fma) f x (Exp10.kd a x) (Exp10.k a x) rx bx (n .is-finite) (n .is-fit) vk (n .off));
-      product = product-arguments (a .fma) f Decimal.k₀ Decimal.k₁ Decimal.k₂ Decimal.k₃ Decimal.k₄ Decimal.coefficients (Exp10.lo a x) (Exp10.hi a x) (Decimal.lo-fine a v x w t) (bound-more (Decimal.lo-small a v x w t) (nums .1)) (Decimal.row-scaled a v x w t .0) (Decimal.hi-low a v x w t) (Decimal.hi-high a v x w t);
+      product = product-arguments (a .fma) f Decimal.k₀ Decimal.k₁ Decimal.k₂ Decimal.k₃ Decimal.k₄ Decimal.coefficients (Exp10.lo a x) (Exp10.hi a x) (Decimal.lo-fine a v x w t) (bound-more (Decimal.lo-small a v x w t) lo-nums) (Decimal.row-scaled a v x w t .0) (Decimal.hi-low a v x w t) (Decimal.hi-high a v x w t);
     }
 
 exp10-small : (a : Arithmetic) → Lawful a → (x : Float) → T (fits binary32 x) → T (finite x) → magnitude x ≤ 0x3d00_0000 → SevenArguments (a .fma) x Seven.s₀ Seven.s₁ Seven.s₂ Seven.s₃ Seven.s₄ Seven.s₅ Seven.s₆

@@ -1,8 +1,8 @@
 -- The steps that exp2 and exp10 share past their splits: mh, a row with a power of two, times the polynomial at lo. What is computed is within 2 ^ -50 of it, in parts of mh, and every argument lies in the range of the law.
 use mathlib.Core.Path.{_≡_, refl, subst}
-use mathlib.Core.List.{List, [], _∷_}
+use mathlib.Core.List.{[], _∷_}
 use mathlib.Core.Logic.{inr}
-use Prim.Native.Nat.{ℕ, _+_, _-_, _*_, _^_, _≤_}
+use Prim.Native.Nat.{_+_, _-_, _*_, _^_, _≤_}
 use lib.Dec.{T, lit≤}
 use lib.IntN.{pos}
 use lib.Ieee.{Float, binary64, mul, ofBits, fits}
@@ -18,15 +18,15 @@ use Rattle.rounding.specs.Ranges.{Ranged, Permitted}
 use Rattle.rounding.proofs.Fractions.{dy}
 use Rattle.rounding.proofs.Value.{val, mul-rounds}
 use Rattle.rounding.proofs.Error.{eps, tiny, round-err}
-use Rattle.rounding.proofs.Horner.{Ball, ball-size, Step}
+use Rattle.rounding.proofs.Horner.{ball-size, Step}
 use Rattle.rounding.proofs.Multiple.{mult-mul, mult-away, away-more, away-mul, away-above, Away, round-mult, round-away}
-use Rattle.rounding.proofs.Range.{FmaLaw, ranged, ranged-finite, permitted-fits}
+use Rattle.rounding.proofs.Range.{FmaLaw, ranged, ranged-finite}
 use Rattle.rounding.proofs.Scaled.{part, part₂, above, mul-part, fma-part}
 use Rattle.curves.specs.Steps.{double, timesPower}
 use Rattle.curves.proofs.Decimal.{Ready, ready-range}
 use Rattle.curves.proofs.Law.{ranged-in}
 use Rattle.accuracy.specs.PowerArguments.{InRange, Handed, ProductArguments}
-use Rattle.accuracy.proofs.Horner.{Stage, Numbers, horner}
+use Rattle.accuracy.proofs.Horner.{Stage, horner}
 
 -- ---- five coefficients, and 1
 abbrev pub unit : Float
@@ -105,7 +105,7 @@ same a = subst (λ (u : ℚ). Bound u (dy 1 60)) (qring (con (pos 0)) (x₀ ⊖ 
     none : Bound (ofℤ (pos 0)) (dy 1 60)
     none = unfold nn _-q_ _+q_ -q_ ofℤ in record { hi = record { le = tt }; lo = record { le = tt } }
 
-start : (k : Float) (V : ℚ) → Ranged binary64 400 k → Bound (val k) V → Stage k (val k) V (dy 1 60)
+pub start : (k : Float) (V : ℚ) → Ranged binary64 400 k → Bound (val k) V → Stage k (val k) V (dy 1 60)
 start k V r b = record { ball = record { is-finite = ranged-finite binary64 400 k r; off = same (val k); size = b }; range = r }
 
 module _ (fma : Float → Float → Float → Float) (law : FmaLaw binary64 400 fma) (k₀ k₁ k₂ k₃ k₄ : Float) (c : Coefficients k₀ k₁ k₂ k₃ k₄) (lo mh : Float) (rl : Ready 100 lo) (bl : Bound (val lo) (dy 1 7))

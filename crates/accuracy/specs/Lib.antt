@@ -1,3 +1,4 @@
 pub mod Figures
 pub mod Theorems
 pub mod PowerArguments
+pub mod PowerBounds
