@@ -1,20 +1,19 @@
 -- exp2 whole: every figure is right, exact at whole numbers, in agreement with any other lawful one, and as IEEE 754-2019 has it at the special values.
-use mathlib.Core.Path.{_≡_, refl, sym, ap, ap₂, _∙_, subst}
+use mathlib.Core.Path.{_≡_, refl, sym, ap, _∙_, subst}
 use mathlib.Core.Bool.{Bool, true, false, not, cond, _&&_}
 use mathlib.Core.Logic.{_⊎_, inl, inr}
-use Prim.Native.Nat.{ℕ, zero, suc, _+_, _-_, _*_, _/_, _%_, _^_, _<_, _≤_, min}
+use Prim.Native.Nat.{ℕ, _+_, _-_, _*_, _/_, _%_, _<_, _≤_, min}
 use native.Mathlib.Nat.{zero-lt-suc, div-add-mod, mul-mod-left, mul-one}
 use native.Mathlib.Omega.{arith}
-use lib.Dec.{T, eqb, leb, ltb, lit≤, eqb→eq}
+use lib.Dec.{T, leb, ltb, lit≤, eqb→eq}
 use lib.IntN.{ℤ, pos, negsuc, negℤ, natAbs, _+ℤ_, _*ℤ_}
 use lib.Signed.{_≤ℤ_, leZ, leZ-yes}
-use lib.Ieee.{Float, nan, inf, fin, binary32, binary64, up, down, fits, isNan, toSigned, ofBits, toBits}
+use lib.Ieee.{Float, nan, inf, fin, binary32, up, down, fits, isNan, toSigned, ofBits, toBits}
 use lib.Ieee.Bits.{is-true, is-false, ofBits-fits}
 use lib.Ieee.Fits.{down-pos, and-l, and-r, and-i, eq→eqb}
 use lib.Ieee.Scale.{finite}
 use borrow.Author.Differences.{ints, le-in}
 use std.Quotient.{cls}
-use Rattle.std.specs.Floats.{nearestIn}
 use Rattle.exact.specs.Fraction.{Same, integer}
 use Rattle.exact.specs.Logarithm.{binary}
 use Rattle.exact.specs.Exact.{exp2}
@@ -24,7 +23,7 @@ use Rattle.exact.proofs.Bound.{ofℕ, Bound, bound-more}
 use Rattle.exact.proofs.Compare.{integer-cls, leq-in}
 use Rattle.exact.proofs.Integer.{mul-oneℤ}
 use Rattle.rounding.specs.Values.{signed, value, isZero}
-use Rattle.rounding.proofs.Fractions.{dy, frac, frac-same}
+use Rattle.rounding.proofs.Fractions.{dy, frac-same}
 use Rattle.rounding.proofs.Value.{val, val-value}
 use Rattle.rounding.proofs.Multiple.{Mult, mult-whole}
 use Rattle.rounding.proofs.Cast.{cast-value}
@@ -36,11 +35,11 @@ use Rattle.curves.specs.Exp2.{isWhole, inPowers, powerBits, exp2Small, exp2Tabl
 use Rattle.curves.proofs.Decimal.{same-integer}
 use Rattle.curves.proofs.Law.{fma-law}
 use Rattle.curves.proofs.WholePower.{power-of, in-range}
-use Rattle.accuracy.specs.Figures.{Right, Exactly, Agree, equal, Special}
+use Rattle.accuracy.specs.Figures.{Right, Agree, equal}
 use Rattle.accuracy.specs.Theorems.{CurveRight, CurveExact, CurveAgrees, CurveSpecial, Proved}
 use Rattle.accuracy.proofs.Inputs.{numberless}
 use Rattle.accuracy.proofs.Outcome.{Placed, under, right, agree}
-use Rattle.accuracy.proofs.PowerInputs.{size-up-to, down-from, down-to, exp2-finite, exp2-last, exp2-first}
+use Rattle.accuracy.proofs.PowerInputs.{near-zero, size-up-to, down-from, down-to, exp2-last, exp2-first}
 use Rattle.accuracy.proofs.PowerLimits as Limits
 use Rattle.accuracy.proofs.PowerLimits.{last}
 use Rattle.accuracy.proofs.PowerBands.{infinite-right, one-right, zero-from, zero-right, least-right, whole-right}
@@ -163,20 +162,17 @@ whole-in x k l h t e =
     no-rest (fin s m d) k t e = unfold isWhole in eq→eqb (ap (λ (n : ℕ). n % down d) (sym (mul-one (m * up d)) ∙ sym (signed-size s (m * up d * 1)) ∙ ap natAbs (sym (signed-mul s (m * up d) 1) ∙ e) ∙ size-mul k (down d)) ∙ mul-mod-left (natAbs k) (down d))
 
 -- ---- right
-nums : (sized 0x3280_0000 ≤q dy 1 26) × (sized 0x3d00_0000 ≤q dy 1 5) × (-q_ (ofℕ 150) ≤q -q_ (sized 0x4316_0000)) × (-q_ (sized 0x4315_0000) ≤q -q_ (ofℕ 149)) × (-q_ (sized 0x4316_0000) ≤q -q_ (zero-from binary)) × (dy 1 5 ≤q last binary)
+nums : (sized 0x3280_0000 ≤q dy 1 26) × (dy 1 5 ≤q last binary) × (-q_ (ofℕ 150) ≤q -q_ (sized 0x4316_0000)) × (-q_ (sized 0x4315_0000) ≤q -q_ (ofℕ 149)) × (-q_ (sized 0x4316_0000) ≤q -q_ (zero-from binary))
 unfolding nn _-q_ _+q_ -q_ _*q_ ofℕ ofℤ
-nums = (record { le = tt }, record { le = tt }, record { le = tt }, record { le = tt }, record { le = tt }, record { le = tt })
+nums = (record { le = tt }, record { le = tt }, record { le = tt }, record { le = tt }, record { le = tt })
 
 singles : (single 0x3f80_0000 ≡ fin false 1 (pos 0)) × (single 0x0000_0001 ≡ fin false 1 (negsuc 148)) × (single 0x0000_0000 ≡ fin false 0 (pos 0)) × (single 0x7f80_0000 ≡ inf false)
 unfolding ofBits
 singles = (refl, refl, refl, refl)
 
 module _ (x : Float) (w : T (fits binary32 x)) (t : T (finite x)) where
-  small-size : magnitude x ≤ 0x3d00_0000 → Bound (val x) (dy 1 5)
-  small-size h = bound-more (size-up-to x w t 0x3d00_0000 h) (nums .1)
-
   small-placed : magnitude x ≤ 0x3d00_0000 → Placed exp2 (value x)
-  small-placed h = under (Limits.under binary (value x) (subst (λ (u : ℚ). u ≤q last binary) (val-value x) (q-trans (small-size h .hi) (nums .5))))
+  small-placed h = under (Limits.under binary (value x) (subst (λ (u : ℚ). u ≤q last binary) (val-value x) (q-trans (near-zero x w t h .hi) (nums .1))))
 
   table-placed : Exp2Reaches x → Placed exp2 (value x)
   table-placed r = under (Limits.under binary (value x) (subst (λ (u : ℚ). u ≤q last binary) (val-value x) (exp2-last x w r)))
@@ -187,7 +183,7 @@ module _ (x : Float) (w : T (fits binary32 x)) (t : T (finite x)) where
   right-at a v (least l h e) = least-right x (exp2Value a x) (e a ∙ singles .1) (q-trans (nums .2) (down-to x w t 0x4316_0000 (λ s. omega arith))) (q-trans (down-from x w t 0x4315_0000 (omega arith)) (nums .3))
   right-at a v (zero-band h e) = zero-right binary x (exp2Value a x) (e a ∙ singles .2) (q-trans (down-from x w t 0x4316_0000 (omega arith)) (nums .4))
   right-at a v (infinite s h e) = infinite-right binary x (exp2Value a x) (e a ∙ singles .3) (exp2-first x w t s h)
-  right-at a v (small h e) = subst (λ (y : Float). Right exp2 x y) (sym (e a)) (right exp2 x _ 1 (small-placed h) (small-wide (a .fma) (fma-law a v) x t w (small-size h)))
+  right-at a v (small h e) = subst (λ (y : Float). Right exp2 x y) (sym (e a)) (right exp2 x _ 1 (small-placed h) (small-wide (a .fma) (fma-law a v) x t w (near-zero x w t h)))
   right-at a v (table r e) = subst (λ (y : Float). Right exp2 x y) (sym (e a)) (right exp2 x _ 162 (table-placed r) (table-wide a v x w r))
 
   agree-at : (a b : Arithmetic) → Lawful a → Lawful b → Band x → Agree exp2 x (exp2Value a x) (exp2Value b x)
@@ -196,7 +192,7 @@ module _ (x : Float) (w : T (fits binary32 x)) (t : T (finite x)) where
   agree-at a b v u (least l h e) = equal (e a ∙ sym (e b))
   agree-at a b v u (zero-band h e) = equal (e a ∙ sym (e b))
   agree-at a b v u (infinite s h e) = equal (e a ∙ sym (e b))
-  agree-at a b v u (small h e) = subst (λ (y : Float). Agree exp2 x y (exp2Value b x)) (sym (e a)) (subst (λ (y : Float). Agree exp2 x (exp2Small a x) y) (sym (e b)) (agree exp2 x _ _ 1 (small-placed h) (small-wide (a .fma) (fma-law a v) x t w (small-size h)) (small-wide (b .fma) (fma-law b u) x t w (small-size h))))
+  agree-at a b v u (small h e) = subst (λ (y : Float). Agree exp2 x y (exp2Value b x)) (sym (e a)) (subst (λ (y : Float). Agree exp2 x (exp2Small a x) y) (sym (e b)) (agree exp2 x _ _ 1 (small-placed h) (small-wide (a .fma) (fma-law a v) x t w (near-zero x w t h)) (small-wide (b .fma) (fma-law b u) x t w (near-zero x w t h))))
   agree-at a b v u (table r e) = subst (λ (y : Float). Agree exp2 x y (exp2Value b x)) (sym (e a)) (subst (λ (y : Float). Agree exp2 x (exp2Table a x) y) (sym (e b)) (agree exp2 x _ _ 162 (table-placed r) (table-wide a v x w r) (table-wide b u x w r)))
 
 exp2-right : CurveRight exp2

@@ -1,6 +1,6 @@
 -- exp2 near zero: 1 + x p(x), p of six terms in pairs, is within 2 ^ -47 of 2 ^ x, relative to it, before the narrowing.
-use mathlib.Core.Path.{_≡_, refl, sym, ap, _∙_, subst}
-use mathlib.Core.List.{List, [], _∷_}
+use mathlib.Core.Path.{_≡_, refl, sym, subst}
+use mathlib.Core.List.{[], _∷_}
 use mathlib.Core.Logic.{inr}
 use Prim.Native.Nat.{ℕ, _+_, _-_, _*_, _^_, _≤_}
 use native.Mathlib.Nat.{le-trans}
@@ -27,9 +27,9 @@ use Rattle.rounding.proofs.Range.{FmaLaw}
 use Rattle.rounding.proofs.Scaled.{above}
 use Rattle.curves.specs.Steps.{double, poly6}
 use Rattle.accuracy.proofs.Horner.{Stage, Numbers, horner}
-use Rattle.accuracy.proofs.NearZero.{x-range, last-near, last-low, zero-near, SquareNumbers, square-step, start, square-off, square-size, square-exact, square-range}
+use Rattle.accuracy.proofs.NearZero.{x-range, last-low, zero-near, square-step, square-off, square-size, square-exact, square-range}
 use Rattle.accuracy.proofs.Outcome.{Near, nearer, close, Wide}
-use Rattle.accuracy.proofs.PowerProduct.{unit}
+use Rattle.accuracy.proofs.PowerProduct.{unit, start}
 use Rattle.accuracy.proofs.PowerTable.{lift}
 
 abbrev pub h₀ : Float

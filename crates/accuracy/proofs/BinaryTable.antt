@@ -1,12 +1,11 @@
 -- exp2 by its table: the f64 before the narrowing is within 2 ^ -43 of 2 ^ x, relative to it, under every lawful arithmetic.
-use mathlib.Core.Path.{_≡_, refl, sym, ap, ap₂, _∙_, subst}
-use mathlib.Core.List.{List, [], _∷_}
+use mathlib.Core.Path.{_≡_, refl, sym, ap, _∙_, subst}
+use mathlib.Core.List.{[], _∷_}
 use mathlib.Core.Logic.{inr}
-use Prim.Native.Nat.{ℕ, zero, suc, _+_, _-_, _*_, _/_, _%_, _^_, _≤_, _<_}
+use Prim.Native.Nat.{ℕ, _+_, _-_, _*_, _^_, _≤_}
 use native.Mathlib.Nat.{zero-lt-suc, le-trans}
 use native.Mathlib.Omega.{arith}
 use lib.Dec.{T, lit≤}
-use lib.Pow.{pow-pos}
 use lib.IntN.{ℤ, pos, negsuc, negℤ, natAbs, _+ℤ_, _*ℤ_}
 use lib.Signed.{_≤ℤ_, shrZ}
 use lib.Ieee.{Float, binary32, binary64, mul, neg, ofBits, fits}
@@ -14,16 +13,16 @@ use lib.Ieee.Fits.{mul-fits, fits-widens}
 use lib.Ieee.Scale.{finite}
 use borrow.Author.Differences.{ints}
 use std.Quotient.{cls}
-use Rattle.exact.specs.Fraction.{Fraction, dyadic, difference, integer}
-use Rattle.exact.specs.Logarithm.{Base, binary}
+use Rattle.exact.specs.Fraction.{dyadic}
+use Rattle.exact.specs.Logarithm.{binary}
 use Rattle.exact.specs.Exact.{exp2}
-use Rattle.exact.proofs.Ring.{con, _⊕_, _⊖_, _⊗_, ⊝, norm}
-use Rattle.exact.proofs.Integer.{zring, x₀, x₁, x₂, x₃, x₄}
+use Rattle.exact.proofs.Ring.{_⊕_, _⊖_, _⊗_, ⊝, norm}
+use Rattle.exact.proofs.Integer.{x₀, x₁, x₂, x₃}
 use Rattle.exact.proofs.Rational.{ℚ, is, _+q_, _*q_, -q_, _-q_, ofℤ, qring}
-use Rattle.exact.proofs.Order.{nn, _≤q_, q-refl, q-trans}
+use Rattle.exact.proofs.Order.{nn, _≤q_, q-trans}
 use Rattle.exact.proofs.Bound.{ofℕ, inv, nn-le, le-nn, Bound, bound-more, bound-add, bound-mul, bound-neg}
 use Rattle.exact.proofs.Compare.{diff-cls, integer-cls, abs-in, fr, nn-dy}
-use Rattle.exact.proofs.Series.{term, S, R, from}
+use Rattle.exact.proofs.Series.{term, S, from}
 use Rattle.exact.proofs.Logarithm.{root, low, low-near-root}
 use Rattle.rounding.specs.Values.{value}
 use Rattle.rounding.specs.Ranges.{Ranged, Permitted}
@@ -31,23 +30,23 @@ use Rattle.rounding.specs.Units.{power}
 use Rattle.rounding.proofs.Fractions.{dy}
 use Rattle.rounding.proofs.Value.{val, val-value, mul-rounds}
 use Rattle.rounding.proofs.Error.{eps, tiny, round-err}
-use Rattle.rounding.proofs.Multiple.{Mult, mult-more, mult-mul, mult-add, mult-whole, Away}
+use Rattle.rounding.proofs.Multiple.{Mult, mult-more, mult-add, mult-whole}
 use Rattle.rounding.proofs.Held.{coarse}
-use Rattle.rounding.proofs.Range.{FmaLaw, permitted-fits, ranged-finite}
+use Rattle.rounding.proofs.Range.{permitted-fits, ranged-finite}
 use Rattle.rounding.proofs.WholeNumber.{NearWhole}
 use Rattle.arithmetic.specs.Arithmetic.{Arithmetic, Lawful, RoundsAway}
 use Rattle.curves.specs.Tables.{exp2fTable}
-use Rattle.curves.specs.Steps.{double, row, rowOf, scaledRow, timesPower}
-use Rattle.curves.specs.Exp2.{kd, k, lo, hi, exp2Table, Exp2Reaches}
+use Rattle.curves.specs.Steps.{double, row, rowOf, timesPower}
+use Rattle.curves.specs.Exp2.{kd, k, lo, hi, Exp2Reaches}
 use Rattle.curves.specs.Split.{Splits, InPowers}
 use Rattle.curves.proofs.Binary.{exp2-splits}
 use Rattle.curves.proofs.Decimal.{Ready, ready-range}
-use Rattle.curves.proofs.Law.{finite-in, finite-out, fma-law, in-range, near-whole}
+use Rattle.curves.proofs.Law.{finite-out, fma-law, in-range, near-whole}
 use Rattle.curves.proofs.PowerRow.{entry-from-one, scaled-row}
 use Rattle.accuracy.proofs.Outcome.{Near, near-positive, nearer, close, Wide}
 use Rattle.accuracy.proofs.PowerInputs.{exp2-finite, exp2-size, exp2-away}
 use Rattle.accuracy.proofs.PowerProduct.{Coefficients}
-use Rattle.accuracy.proofs.PowerTable.{part-split, Approximates, table-near, table-finite, table-low}
+use Rattle.accuracy.proofs.PowerTable.{part-split, Approximates, mh-low, mh-high, table-near, table-finite, table-low}
 use Rattle.accuracy.proofs.PowerRows.{entry-rule}
 
 -- ---- the coefficients
@@ -218,6 +217,12 @@ module _ (a : Arithmetic) (v : Lawful a) (x : Float) (w : T (fits binary32 x)) (
       subst (λ (u : ℚ). Bound (val x *q low binary (from 80 j) -q u) (dy 1 58)) (sym e)
       (subst (λ (u : ℚ). Bound u (dy 1 58)) (qring (x₀ ⊗ (x₁ ⊖ x₂)) (x₀ ⊗ x₁ ⊖ x₀ ⊗ x₂) refl (val x ∷ low binary (from 80 j) ∷ L ∷ []))
       (bound-more (bound-mul (exp2-size x w t) (low-near-root binary j)) (nums .7)))
+
+  pub hi-low : dy 1 160 ≤q val (hi a x)
+  hi-low = mh-low binary (dy 1 7) (nums .9) k₀ k₁ k₂ k₃ k₄ coefficients approximates (a .fma) (fma-law a v) (lo a x) (hi a x) lo-ready lo-size (shrZ (k a x) 64) (powers-small (k a x) powers) (row exp2fTable (rowOf 64 (k a x))) _ (entry-rule (rowOf 64 (k a x)) (powers .row)) (hi-scaled .0) (hi-scaled .1)
+
+  pub hi-high : val (hi a x) ≤q ofℕ (2 ^ 160)
+  hi-high = mh-high binary (dy 1 7) (nums .9) k₀ k₁ k₂ k₃ k₄ coefficients approximates (a .fma) (fma-law a v) (lo a x) (hi a x) lo-ready lo-size (shrZ (k a x) 64) (powers-small (k a x) powers) (row exp2fTable (rowOf 64 (k a x))) _ (entry-rule (rowOf 64 (k a x)) (powers .row)) (hi-scaled .0) (hi-scaled .1)
 
   pub wide-low : dy 1 162 ≤q val wide
   wide-low = table-low binary (dy 1 7) (nums .9) k₀ k₁ k₂ k₃ k₄ coefficients approximates (a .fma) (fma-law a v) (lo a x) (hi a x) lo-ready lo-size (shrZ (k a x) 64) (powers-small (k a x) powers) (row exp2fTable (rowOf 64 (k a x))) _ (entry-rule (rowOf 64 (k a x)) (powers .row)) (hi-scaled .0) (hi-scaled .1)

@@ -1,36 +1,33 @@
 -- exp10 whole: every figure is right, exact at whole numbers from 0 to 10, in agreement with any other lawful one, and as IEEE 754-2019 has it at the special values.
 use mathlib.Core.Path.{_≡_, refl, sym, ap, _∙_, subst}
 use mathlib.Core.Bool.{Bool, true, false, not, cond, _&&_}
-use mathlib.Core.List.{List, [], _∷_}
+use mathlib.Core.List.{[], _∷_}
 use mathlib.Core.Logic.{_⊎_, inl, inr}
 use Prim.Native.Nat.{ℕ, zero, suc, _+_, _-_, _*_, _^_, _<_, _≤_}
-use native.Mathlib.Nat.{zero-lt-suc, le-trans, le-refl}
+use native.Mathlib.Nat.{zero-lt-suc, le-trans}
 use native.Mathlib.Omega.{arith}
-use lib.Dec.{T, eqb, leb, ltb, lit≤, eqb→eq}
+use lib.Dec.{T, leb, ltb, lit≤, eqb→eq}
 use lib.Pow.{pow-pos, pow-mono}
-use lib.IntN.{ℤ, pos, negsuc}
+use lib.IntN.{ℤ, pos}
 use lib.Ieee.{Float, nan, inf, fin, binary32, up, down, fits, isNan, ofBits, toBits, size}
-use lib.Ieee.Bits.{is-true, is-false}
+use lib.Ieee.Bits.{is-false}
 use lib.Ieee.Scale.{finite}
-use std.Quotient.{cls}
-use Rattle.std.specs.Floats.{nearestIn}
 use Rattle.exact.specs.Fraction.{Same, whole}
 use Rattle.exact.specs.Logarithm.{decimal}
 use Rattle.exact.specs.Exact.{exp10}
-use Rattle.exact.proofs.Ring.{con, _⊕_, _⊖_, _⊗_, ⊝, norm}
+use Rattle.exact.proofs.Ring.{con, _⊕_, _⊖_, _⊗_, norm}
 use Rattle.exact.proofs.Integer.{x₀, x₁, x₂, x₃}
 use Rattle.exact.proofs.Rational.{ℚ, is, _+q_, _*q_, -q_, _-q_, ofℤ, qring}
 use Rattle.exact.proofs.Order.{nn, _≤q_, le-by, q-refl, q-trans, q-add, q-mul}
-use Rattle.exact.proofs.Bound.{ofℕ, nn-ofℕ, ofℕ-mono, nn-le, le-nn, absq, Bound, bound-more, bound-via, bound-above, mul-right}
-use Rattle.exact.proofs.Compare.{whole-cls, nn-dy, fr-le-out}
-use Rattle.exact.proofs.Relative.{Rel}
+use Rattle.exact.proofs.Bound.{ofℕ, nn-ofℕ, ofℕ-mono, nn-le, le-nn, Bound, bound-more, bound-via, mul-right}
+use Rattle.exact.proofs.Compare.{whole-cls, nn-dy}
 use Rattle.exact.proofs.Series.{S, from}
 use Rattle.exact.proofs.Logarithm.{low, low-near-root}
-use Rattle.exact.proofs.Powers.{raise, raised-at, pow-whole}
-use Rattle.rounding.specs.Values.{signed, value, isZero}
+use Rattle.exact.proofs.Powers.{raised-at, pow-whole}
+use Rattle.rounding.specs.Values.{value, isZero}
 use Rattle.rounding.proofs.Fractions.{dy, frac-le-out}
 use Rattle.rounding.proofs.Value.{val, val-value}
-use Rattle.rounding.proofs.Distance.{abs-nn, same-number}
+use Rattle.rounding.proofs.Distance.{abs-nn}
 use Rattle.rounding.proofs.Patterns.{sized}
 use Rattle.arithmetic.specs.Arithmetic.{Arithmetic, Lawful}
 use Rattle.arithmetic.proofs.Signs.{order}
@@ -38,16 +35,16 @@ use Rattle.curves.specs.Steps.{pattern, magnitude, single}
 use Rattle.curves.specs.Exp10.{exp10NearOne, exp10Small, exp10Table, exp10Value, Exp10Reaches}
 use Rattle.curves.proofs.Law.{fma-law}
 use Rattle.curves.proofs.Sizes.{patternOf, pattern-is}
-use Rattle.accuracy.specs.Figures.{Right, Agree, equal, Special}
+use Rattle.accuracy.specs.Figures.{Right, Agree, equal}
 use Rattle.accuracy.specs.Theorems.{CurveRight, CurveExact, CurveAgrees, CurveSpecial, Proved}
-use Rattle.accuracy.proofs.Inputs.{Signed, positive, negative, signed-of, numberless, zero-pattern}
-use Rattle.accuracy.proofs.Outcome.{sum, Near, Under, Placed, under, right, agree, below-limit, plus-sign, Wide}
-use Rattle.accuracy.proofs.PowerInputs.{size-up-to, from-pattern, down-from, exp10-last, exp10-first}
+use Rattle.accuracy.proofs.Inputs.{positive, negative, signed-of, numberless, zero-pattern}
+use Rattle.accuracy.proofs.Outcome.{sum, Under, Placed, under, right, agree, below-limit, plus-sign}
+use Rattle.accuracy.proofs.PowerInputs.{near-zero, size-up-to, from-pattern, down-from, exp10-last, exp10-first}
 use Rattle.accuracy.proofs.PowerLimits as Limits
 use Rattle.accuracy.proofs.PowerLimits.{last, first}
 use Rattle.accuracy.proofs.PowerBands.{infinite-right, zero-from, zero-right}
 use Rattle.accuracy.proofs.DecimalPolynomial.{small-wide}
-use Rattle.accuracy.proofs.DecimalTable.{wide, wide-low, table-is-near, table-wide}
+use Rattle.accuracy.proofs.DecimalTable.{wide, table-is-near, table-wide}
 use Rattle.accuracy.proofs.NearOne.{near-one-right, choice, stays-one, falls-below}
 use Rattle.accuracy.proofs.TenPowers.{ten-figure}
 use Rattle.accuracy.proofs.Tests.{less, not-less, up-to-is, not-up-to, both-hold, left-fails, right-fails, taken, left}
@@ -92,20 +89,17 @@ band x number =
     ]
 
 -- ---- right, and in agreement
-nums : (sized 0x3d00_0000 ≤q dy 1 5) × (-q_ (sized 0x4234_9e36) ≤q -q_ (zero-from decimal)) × (dy 1 5 ≤q last decimal)
+nums : (dy 1 5 ≤q last decimal) × (-q_ (sized 0x4234_9e36) ≤q -q_ (zero-from decimal))
 unfolding nn _-q_ _+q_ -q_ _*q_ ofℕ ofℤ
-nums = (record { le = tt }, record { le = tt }, record { le = tt })
+nums = (record { le = tt }, record { le = tt })
 
 singles : (single 0x0000_0000 ≡ fin false 0 (pos 0)) × (single 0x7f80_0000 ≡ inf false)
 unfolding ofBits
 singles = (refl, refl)
 
 module _ (x : Float) (w : T (fits binary32 x)) (t : T (finite x)) where
-  small-size : magnitude x ≤ 0x3d00_0000 → Bound (val x) (dy 1 5)
-  small-size h = bound-more (size-up-to x w t 0x3d00_0000 h) (nums .0)
-
   small-placed : magnitude x ≤ 0x3d00_0000 → Placed exp10 (value x)
-  small-placed h = under (Limits.under decimal (value x) (subst (λ (u : ℚ). u ≤q last decimal) (val-value x) (q-trans (small-size h .hi) (nums .2))))
+  small-placed h = under (Limits.under decimal (value x) (subst (λ (u : ℚ). u ≤q last decimal) (val-value x) (q-trans (near-zero x w t h .hi) (nums .0))))
 
   table-under : Exp10Reaches x → Under exp10 (value x)
   table-under r = Limits.under decimal (value x) (subst (λ (u : ℚ). u ≤q last decimal) (val-value x) (exp10-last x w t (λ s. elim (r .limits) [ inl l ↦ l | inr l ↦ absurd (omega (arith, s, l .0)) ])))
@@ -114,14 +108,14 @@ module _ (x : Float) (w : T (fits binary32 x)) (t : T (finite x)) where
   right-at a v (infinite s h e) = infinite-right decimal x (exp10Value a x) (e a ∙ singles .1) (exp10-first x w t s h)
   right-at a v (zero-band h e) = zero-right decimal x (exp10Value a x) (e a ∙ singles .0) (q-trans (down-from x w t 0x4234_9e36 (omega arith)) (nums .1))
   right-at a v (one h e) = subst (λ (y : Float). Right exp10 x y) (sym (e a)) (near-one-right x w t h)
-  right-at a v (small g h e) = subst (λ (y : Float). Right exp10 x y) (sym (e a)) (right exp10 x _ 1 (small-placed h) (small-wide (a .fma) (fma-law a v) x t w (small-size h)))
+  right-at a v (small g h e) = subst (λ (y : Float). Right exp10 x y) (sym (e a)) (right exp10 x _ 1 (small-placed h) (small-wide (a .fma) (fma-law a v) x t w (near-zero x w t h)))
   right-at a v (table r e) = subst (λ (y : Float). Right exp10 x y) (sym (e a)) (right exp10 x _ 162 (under (table-under r)) (table-wide a v x w r))
 
   agree-at : (a b : Arithmetic) → Lawful a → Lawful b → Band x → Agree exp10 x (exp10Value a x) (exp10Value b x)
   agree-at a b v u (infinite s h e) = equal (e a ∙ sym (e b))
   agree-at a b v u (zero-band h e) = equal (e a ∙ sym (e b))
   agree-at a b v u (one h e) = equal (e a ∙ sym (e b))
-  agree-at a b v u (small g h e) = subst (λ (y : Float). Agree exp10 x y (exp10Value b x)) (sym (e a)) (subst (λ (y : Float). Agree exp10 x (exp10Small a x) y) (sym (e b)) (agree exp10 x _ _ 1 (small-placed h) (small-wide (a .fma) (fma-law a v) x t w (small-size h)) (small-wide (b .fma) (fma-law b u) x t w (small-size h))))
+  agree-at a b v u (small g h e) = subst (λ (y : Float). Agree exp10 x y (exp10Value b x)) (sym (e a)) (subst (λ (y : Float). Agree exp10 x (exp10Small a x) y) (sym (e b)) (agree exp10 x _ _ 1 (small-placed h) (small-wide (a .fma) (fma-law a v) x t w (near-zero x w t h)) (small-wide (b .fma) (fma-law b u) x t w (near-zero x w t h))))
   agree-at a b v u (table r e) = subst (λ (y : Float). Agree exp10 x y (exp10Value b x)) (sym (e a)) (subst (λ (y : Float). Agree exp10 x (exp10Table a x) y) (sym (e b)) (agree exp10 x _ _ 162 (under (table-under r)) (table-wide a v x w r) (table-wide b u x w r)))
 
 exp10-right : CurveRight exp10
@@ -209,7 +203,7 @@ module _ (x : Float) (w : T (fits binary32 x)) (t : T (finite x)) (n : ℕ) (h :
 
   no-small : 0x3280_0000 < magnitude x → magnitude x ≤ 0x3d00_0000 → ⊥
   no-small g k =
-      let z : n ≡ 0 = no-whole n 5 (lit≤ tt) (subst (λ (u : ℚ). u ≤q dy 1 5) e (small-size x w t k .hi)) in
+      let z : n ≡ 0 = no-whole n 5 (lit≤ tt) (subst (λ (u : ℚ). u ≤q dy 1 5) e (near-zero x w t k .hi)) in
       elim (signed-of x w t) [
         | positive l q v ↦ below-zero .3 (subst (λ (u : ℚ). sized 0x3280_0000 ≤q u) (e ∙ ap ofℕ z) (from-pattern x w t 0x3280_0000 l (omega (arith, q, g))))
         | negative l q v ↦ not-low (-q_ (sized 0x3280_0000)) (below-zero .2) (down-from x w t 0x3280_0000 (omega (arith, q, g)))

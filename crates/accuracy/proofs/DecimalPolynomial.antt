@@ -1,8 +1,8 @@
 -- exp10 near zero: 1 + x p(x), p of seven terms by Horner's scheme, is within 2 ^ -43 of 10 ^ x, relative to it, before the narrowing.
-use mathlib.Core.Path.{_≡_, refl, sym, ap, _∙_, subst}
-use mathlib.Core.List.{List, [], _∷_}
+use mathlib.Core.Path.{_≡_, refl, sym, subst}
+use mathlib.Core.List.{[], _∷_}
 use mathlib.Core.Logic.{inr}
-use Prim.Native.Nat.{ℕ, _+_, _-_, _*_, _^_, _≤_}
+use Prim.Native.Nat.{ℕ, _+_, _-_, _*_, _≤_}
 use native.Mathlib.Nat.{le-trans}
 use lib.Dec.{T, lit≤}
 use lib.IntN.{pos}
@@ -25,9 +25,9 @@ use Rattle.rounding.proofs.Value.{val}
 use Rattle.rounding.proofs.Range.{FmaLaw}
 use Rattle.curves.specs.Steps.{double, poly7}
 use Rattle.accuracy.proofs.Horner.{Stage, Numbers, horner}
-use Rattle.accuracy.proofs.NearZero.{x-range, last-low, zero-near, start}
+use Rattle.accuracy.proofs.NearZero.{x-range, last-low, zero-near}
 use Rattle.accuracy.proofs.Outcome.{Near, nearer, close, Wide}
-use Rattle.accuracy.proofs.PowerProduct.{unit}
+use Rattle.accuracy.proofs.PowerProduct.{unit, start}
 use Rattle.accuracy.proofs.PowerTable.{lift}
 
 abbrev pub s₀ : Float

@@ -1,8 +1,8 @@
 -- exp10 by its table: the f64 before the narrowing is within 2 ^ -43 of 10 ^ x, relative to it, under every lawful arithmetic.
-use mathlib.Core.Path.{_≡_, refl, sym, ap, _∙_, subst}
-use mathlib.Core.List.{List, [], _∷_}
+use mathlib.Core.Path.{_≡_, refl, ap, _∙_, subst}
+use mathlib.Core.List.{[], _∷_}
 use mathlib.Core.Logic.{inr}
-use Prim.Native.Nat.{ℕ, zero, suc, _+_, _-_, _*_, _/_, _%_, _^_, _≤_, _<_}
+use Prim.Native.Nat.{ℕ, _+_, _-_, _*_, _^_, _≤_}
 use native.Mathlib.Nat.{zero-lt-suc}
 use native.Mathlib.Omega.{arith}
 use lib.Dec.{T, lit≤}
@@ -12,7 +12,7 @@ use lib.Ieee.{Float, binary32, binary64, mul, ofBits, fits}
 use lib.Ieee.Scale.{finite}
 use borrow.Author.Differences.{ints}
 use std.Quotient.{cls}
-use Rattle.exact.specs.Logarithm.{Base, binary, decimal}
+use Rattle.exact.specs.Logarithm.{binary, decimal}
 use Rattle.exact.specs.Exact.{exp10}
 use Rattle.exact.proofs.Ring.{con, _⊕_, _⊖_, _⊗_, ⊝, norm}
 use Rattle.exact.proofs.Integer.{zring, x₀, x₁, x₂, x₃, x₄, x₅, x₆}
@@ -20,24 +20,23 @@ use Rattle.exact.proofs.Rational.{ℚ, is, _+q_, _*q_, -q_, _-q_, ofℤ, qring}
 use Rattle.exact.proofs.Order.{nn, _≤q_, q-trans}
 use Rattle.exact.proofs.Bound.{ofℕ, inv, nn-le, le-nn, Bound, bound-more, bound-add, bound-mul, bound-neg}
 use Rattle.exact.proofs.Compare.{fr, nn-dy}
-use Rattle.exact.proofs.Series.{term, S, R, from}
+use Rattle.exact.proofs.Series.{term, S, from}
 use Rattle.exact.proofs.Logarithm.{root, low, low-near-root}
 use Rattle.rounding.specs.Values.{value}
 use Rattle.rounding.specs.Units.{power}
 use Rattle.rounding.proofs.Fractions.{dy}
 use Rattle.rounding.proofs.Value.{val, val-value}
-use Rattle.rounding.proofs.Range.{FmaLaw}
 use Rattle.rounding.proofs.WholeNumber.{NearWhole}
 use Rattle.arithmetic.specs.Arithmetic.{Arithmetic, Lawful}
 use Rattle.curves.specs.Tables.{exp2Mid}
 use Rattle.curves.specs.Steps.{double, row, rowOf, timesPower}
 use Rattle.curves.specs.Exp10.{log2Ten, kd, k, lo, hi, Exp10Reaches}
 use Rattle.curves.specs.Split.{InPowers}
-use Rattle.curves.proofs.Decimal.{step, mostLo, Ready, Input, input, input-size, input-ready, input-round, k-value, k-powers, k-size, lo-off, lo-size, lo-ready, hi-scaled}
+use Rattle.curves.proofs.Decimal.{step, mostLo, Ready, input, input-size, input-ready, input-round, k-value, k-powers, k-size, lo-off, lo-size, lo-ready, hi-scaled}
 use Rattle.curves.proofs.Law.{fma-law, near-whole}
 use Rattle.accuracy.proofs.Outcome.{Near, near-positive, nearer, close, Wide}
 use Rattle.accuracy.proofs.PowerProduct.{Coefficients}
-use Rattle.accuracy.proofs.PowerTable.{part-split, Approximates, table-near, table-finite, table-low}
+use Rattle.accuracy.proofs.PowerTable.{part-split, Approximates, mh-low, mh-high, table-near, table-finite, table-low}
 use Rattle.accuracy.proofs.PowerRows.{mid-rule}
 
 -- ---- the coefficients
@@ -145,7 +144,7 @@ module _ (a : Arithmetic) (v : Lawful a) (x : Float) (w : T (fits binary32 x)) (
   k-bound : Bound (ofℤ (k a x)) (ofℕ 4923)
   k-bound = subst (λ (u : ℚ). Bound u (ofℕ 4923)) vk (k-size (a .fma) (fma-law a v) x (kd a x) (k a x) (input-ready x (input x w t) w) (input-size x (input x w t)) (near-k .is-finite) (near-k .is-fit) vk (near-k .off))
 
-  row-scaled : T (finite (hi a x)) × (val (hi a x) ≡ val (row exp2Mid (rowOf 32 (k a x))) *q cls (power (shrZ (k a x) 32)))
+  pub row-scaled : T (finite (hi a x)) × (val (hi a x) ≡ val (row exp2Mid (rowOf 32 (k a x))) *q cls (power (shrZ (k a x) 32)))
   row-scaled = hi-scaled x (input x w t) w a v
 
   abbrev pub wide : Float
@@ -163,6 +162,12 @@ module _ (a : Arithmetic) (v : Lawful a) (x : Float) (w : T (fits binary32 x)) (
     where
       ring : (x l e o k m v : ℚ) → x *q (l -q e) +q (-q_ ((o -q (x +q k *q m)) *q e) +q -q_ (k *q (m *q e +q v))) ≡ x *q l -q (k *q v +q o *q e)
       ring x l e o k m v = unfold norm _-q_ in qring (x₀ ⊗ (x₁ ⊖ x₂) ⊕ (⊝ ((x₃ ⊖ (x₀ ⊕ x₄ ⊗ x₅)) ⊗ x₂) ⊕ ⊝ (x₄ ⊗ (x₅ ⊗ x₂ ⊕ x₆)))) (x₀ ⊗ x₁ ⊖ (x₄ ⊗ x₆ ⊕ x₃ ⊗ x₂)) refl (x ∷ l ∷ e ∷ o ∷ k ∷ m ∷ v ∷ [])
+
+  pub hi-low : dy 1 160 ≤q val (hi a x)
+  hi-low = mh-low decimal mostLo (nums .1) k₀ k₁ k₂ k₃ k₄ coefficients approximates (a .fma) (fma-law a v) (lo a x) (hi a x) lo-fine lo-small (shrZ (k a x) 32) (powers-small (k a x) powers) (row exp2Mid (rowOf 32 (k a x))) _ (mid-rule (rowOf 32 (k a x)) (powers .row)) (row-scaled .0) (row-scaled .1)
+
+  pub hi-high : val (hi a x) ≤q ofℕ (2 ^ 160)
+  hi-high = mh-high decimal mostLo (nums .1) k₀ k₁ k₂ k₃ k₄ coefficients approximates (a .fma) (fma-law a v) (lo a x) (hi a x) lo-fine lo-small (shrZ (k a x) 32) (powers-small (k a x) powers) (row exp2Mid (rowOf 32 (k a x))) _ (mid-rule (rowOf 32 (k a x)) (powers .row)) (row-scaled .0) (row-scaled .1)
 
   pub wide-low : dy 1 162 ≤q val wide
   wide-low = table-low decimal mostLo (nums .1) k₀ k₁ k₂ k₃ k₄ coefficients approximates (a .fma) (fma-law a v) (lo a x) (hi a x) lo-fine lo-small (shrZ (k a x) 32) (powers-small (k a x) powers) (row exp2Mid (rowOf 32 (k a x))) _ (mid-rule (rowOf 32 (k a x)) (powers .row)) (row-scaled .0) (row-scaled .1)

@@ -33,3 +33,5 @@ pub mod NearOne
 pub mod TenPowers
 pub mod Decimal
 pub mod Proved
+pub mod PowerArguments
+pub mod PowerBounds

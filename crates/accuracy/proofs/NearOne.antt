@@ -1,14 +1,12 @@
 -- exp10 near one, up to 2 ^ -26: the f32 nearest to 10 ^ x is the one below 1 from 0xb25e5bd9 on, and 1 elsewhere.
 use mathlib.Core.Path.{_≡_, refl, sym, ap, ap₂, _∙_, subst}
-use mathlib.Core.Bool.{Bool, true, false, not, cond, _&&_}
-use mathlib.Core.List.{List, [], _∷_}
-use mathlib.Core.Logic.{_⊎_, inl, inr}
-use Prim.Native.Nat.{ℕ, zero, suc, _+_, _-_, _*_, _^_, _<_, _≤_}
-use native.Mathlib.Nat.{le-trans}
+use mathlib.Core.Bool.{Bool, true, false, not, _&&_}
+use mathlib.Core.List.{[], _∷_}
+use mathlib.Core.Logic.{inl, inr}
+use Prim.Native.Nat.{ℕ, _+_, _-_, _*_, _^_, _≤_}
 use native.Mathlib.Omega.{arith}
 use lib.Dec.{T, leb, ltb, lit≤}
-use lib.Pow.{pow-pos}
-use lib.IntN.{ℤ, pos, negsuc}
+use lib.IntN.{pos, negsuc}
 use lib.Ieee.{Float, fin, binary32, fits, isNan, ofBits, size}
 use lib.Ieee.Bits.{is-false}
 use lib.Ieee.Scale.{finite}
@@ -16,21 +14,20 @@ use std.Quotient.{cls}
 use Rattle.exact.specs.Fraction.{Fraction, times}
 use Rattle.exact.specs.Exponential.{at-least, at-most}
 use Rattle.exact.specs.Logarithm.{decimal}
-use Rattle.exact.specs.Exact.{exp10, AtLeast, AtMost}
+use Rattle.exact.specs.Exact.{exp10, AtLeast}
 use Rattle.exact.proofs.Ring.{con, _⊕_, _⊖_, _⊗_, ⊝, norm}
 use Rattle.exact.proofs.Integer.{x₀, x₁, x₂, x₃, x₄}
 use Rattle.exact.proofs.Rational.{ℚ, is, _+q_, _*q_, -q_, _-q_, ofℤ, qring}
 use Rattle.exact.proofs.Order.{nn, nn-add, nn-mul, nn-total, _≤q_, le-by, q-refl, q-trans, q-add, q-neg, q-mul}
 use Rattle.exact.proofs.Bound.{ofℕ, inv, nn-inv, Bound, bound-more, bound-mul, bound-above, mul-right}
-use Rattle.exact.proofs.Compare.{nn-dy}
 use Rattle.exact.proofs.Series.{term, S, R, from, later, tail}
 use Rattle.exact.proofs.Claims.{holds}
 use Rattle.exact.proofs.Logarithm.{low, root, low-nn}
-use Rattle.rounding.specs.Values.{value, _≺_}
+use Rattle.rounding.specs.Values.{value}
 use Rattle.rounding.specs.Units.{unit}
 use Rattle.rounding.specs.Nearest.{Held}
 use Rattle.rounding.specs.Errors.{middle}
-use Rattle.rounding.proofs.Fractions.{dy, frac}
+use Rattle.rounding.proofs.Fractions.{dy}
 use Rattle.rounding.proofs.Value.{val, val-value}
 use Rattle.rounding.proofs.Narrow.{unitOf}
 use Rattle.rounding.proofs.Gaps.{Value}
@@ -42,7 +39,7 @@ use Rattle.curves.specs.Steps.{pattern, magnitude, single}
 use Rattle.curves.specs.Exp10.{exp10NearOne, exp10Value}
 use Rattle.accuracy.specs.Figures.{halfAndPart, Right, NearestTo}
 use Rattle.accuracy.specs.Theorems.{NearOneNearest}
-use Rattle.accuracy.proofs.Inputs.{Signed, positive, negative, signed-of, numberless}
+use Rattle.accuracy.proofs.Inputs.{positive, negative, signed-of, numberless}
 use Rattle.accuracy.proofs.Neighbours.{grains, gap-above, gap-below}
 use Rattle.accuracy.proofs.Outcome.{sum, right-finite}
 use Rattle.accuracy.proofs.PowerBands.{small-argument, one-right}
@@ -51,9 +48,6 @@ use Rattle.accuracy.proofs.PowerLimits.{last, under, low-above, low-below}
 use Rattle.accuracy.proofs.Tests.{not-less, up-to-is, not-up-to, both-hold, left-fails, right-fails, taken, left}
 
 -- ---- the sums to the second term
-abbrev two-terms : ℚ → ℚ
-two-terms t = ofℕ 1 +q t +q t *q t *q inv 1
-
 second : (t : ℚ) → S t 2 ≡ ofℕ 1 +q t +q t *q t *q inv 1
 unfolding S term norm ofℕ
 second t = ap (λ (u : ℚ). ofℕ 1 +q ofℕ 1 *q t *q u +q ofℕ 1 *q t *q u *q t *q inv 1) first ∙ qring (con (pos 1) ⊕ con (pos 1) ⊗ x₀ ⊗ con (pos 1) ⊕ con (pos 1) ⊗ x₀ ⊗ con (pos 1) ⊗ x₀ ⊗ x₁) (con (pos 1) ⊕ x₀ ⊕ x₀ ⊗ x₀ ⊗ x₁) refl (t ∷ inv 1 ∷ [])

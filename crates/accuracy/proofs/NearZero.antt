@@ -1,42 +1,39 @@
 -- Near zero exp2 and exp10 are 1 + x p(x): the last step and the way to the exact value, once for both; and p by its steps for each.
-use mathlib.Core.Path.{_≡_, refl, sym, ap, _∙_, subst}
-use mathlib.Core.List.{List, [], _∷_}
-use mathlib.Core.Logic.{inr}
+use mathlib.Core.Path.{refl, sym, ap, _∙_, subst}
+use mathlib.Core.List.{[], _∷_}
 use Prim.Native.Nat.{ℕ, _+_, _-_, _*_, _^_, _≤_}
 use native.Mathlib.Nat.{le-trans}
 use lib.Dec.{T, lit≤}
-use lib.IntN.{pos}
 use lib.Ieee.{Float, binary32, binary64, mul, ofBits, fits}
 use lib.Ieee.Fits.{mul-fits, fits-widens}
 use lib.Ieee.Scale.{finite}
-use std.Quotient.{cls}
-use Rattle.exact.specs.Logarithm.{Base, binary, decimal}
+use Rattle.exact.specs.Logarithm.{Base}
 use Rattle.exact.specs.Laws.{of-base}
-use Rattle.exact.proofs.Ring.{con, _⊕_, _⊖_, _⊗_, ⊝, norm}
-use Rattle.exact.proofs.Integer.{x₀, x₁, x₂, x₃, x₄, x₅, x₆, x₇, x₈}
-use Rattle.exact.proofs.Rational.{ℚ, is, _+q_, _*q_, -q_, _-q_, ofℤ, qring}
-use Rattle.exact.proofs.Order.{nn, nn-add, _≤q_, le-by, q-refl, q-trans, q-add, q-mul}
+use Rattle.exact.proofs.Ring.{_⊕_, _⊖_, _⊗_, ⊝, norm}
+use Rattle.exact.proofs.Integer.{x₀, x₁, x₂, x₃, x₄, x₅}
+use Rattle.exact.proofs.Rational.{ℚ, _+q_, _*q_, -q_, _-q_, ofℤ, qring}
+use Rattle.exact.proofs.Order.{nn, _≤q_, q-trans, q-add, q-mul}
 use Rattle.exact.proofs.Bound.{ofℕ, inv, ofℕ-mono, nn-le, le-nn, Bound, bound-more, bound-add, bound-mul, bound-neg, bound-turn, mul-right}
 use Rattle.exact.proofs.Compare.{nn-dy}
 use Rattle.exact.proofs.Relative.{Rel}
-use Rattle.exact.proofs.Series.{term, S, R, from, later, tail}
+use Rattle.exact.proofs.Series.{S, from}
 use Rattle.exact.proofs.Shift.{shifted}
 use Rattle.exact.proofs.Logarithm.{root, low, low-near-root}
 use Rattle.exact.proofs.Powers.{rest-small}
 use Rattle.exact.proofs.Table.{root-bound}
 use Rattle.rounding.specs.Values.{value}
-use Rattle.rounding.specs.Ranges.{Ranged, Permitted}
+use Rattle.rounding.specs.Ranges.{Ranged}
 use Rattle.rounding.proofs.Fractions.{dy}
 use Rattle.rounding.proofs.Value.{val, val-value, mul-rounds}
 use Rattle.rounding.proofs.Error.{eps, tiny, round-err}
 use Rattle.rounding.proofs.MultiplyAdd.{slip, slip₂, fma-err}
 use Rattle.rounding.proofs.Multiple.{mult-mul, mult-away, away-more, round-mult}
 use Rattle.rounding.proofs.Held.{finest}
-use Rattle.rounding.proofs.Horner.{Ball, ball-size, Step}
+use Rattle.rounding.proofs.Horner.{ball-size}
 use Rattle.rounding.proofs.Range.{FmaLaw, ranged, ranged-finite}
 use Rattle.rounding.proofs.Scaled.{above}
 use Rattle.accuracy.proofs.Horner.{Stage, Numbers, horner}
-use Rattle.accuracy.proofs.Outcome.{sum, Near, near-positive}
+use Rattle.accuracy.proofs.Outcome.{Near, near-positive}
 use Rattle.accuracy.proofs.PowerLimits.{sum-is}
 use Rattle.accuracy.proofs.PowerProduct.{unit, unit-range}
 
@@ -120,14 +117,6 @@ square-step fma law sq u v t2 us vs V e A a V' e' U E rs bs os bt su sv bv c =
       };
       range = s .range;
     }
-
--- a coefficient as a start
-pub start : (k : Float) (V : ℚ) → Ranged binary64 400 k → Bound (val k) V → Stage k (val k) V (dy 1 60)
-unfolding norm _-q_
-start k V r b = record { ball = record { is-finite = ranged-finite binary64 400 k r; off = subst (λ (u : ℚ). Bound u (dy 1 60)) (qring (con (pos 0)) (x₀ ⊖ x₀) refl (val k ∷ [])) none; size = b }; range = r }
-  where
-    none : Bound (ofℤ (pos 0)) (dy 1 60)
-    none = unfold nn _-q_ _+q_ -q_ ofℤ in record { hi = record { le = tt }; lo = record { le = tt } }
 
 -- x squared
 square-nums : (dy 1 5 *q dy 1 5 ≤q ofℕ (2 ^ 100)) × (dy 1 5 *q dy 1 5 *q eps binary64 +q tiny binary64 ≤q dy 1 62) × (dy 1 5 *q dy 1 5 +q dy 1 62 ≤q dy 1 9) × (dy 1 9 ≤q ofℕ (2 ^ 400)) × (dy 1 5 *q dy 1 5 ≤q dy 1 10)

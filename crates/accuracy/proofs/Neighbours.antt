@@ -1,11 +1,9 @@
 -- The f32 next to a given one: every other above it is at least a unit higher, and every other below it at least as low as the one before it.
-use mathlib.Core.Path.{_≡_, refl, sym, ap, _∙_, subst}
+use mathlib.Core.Path.{_≡_, refl, sym, subst}
 use mathlib.Core.Bool.{Bool, true, false}
-use mathlib.Core.Logic.{_⊎_, inl, inr}
-use Prim.Native.Nat.{ℕ, _+_, _-_, _*_, _^_, _<_, _≤_}
-use native.Mathlib.Nat.{le-of-lt, mul-le-mul-right, not-le-of-lt}
-use native.Mathlib.Omega.{arith}
-use lib.Dec.{T}
+use mathlib.Core.Logic.{inl, inr}
+use Prim.Native.Nat.{ℕ, _+_, _-_, _*_, _^_, _≤_}
+use native.Mathlib.Nat.{le-of-lt, mul-le-mul-right}
 use lib.Pow.{pow-pos}
 use lib.Ieee.{Float, binary32}
 use std.Quotient.{cls}
@@ -16,7 +14,7 @@ use Rattle.rounding.specs.Nearest.{Held}
 use Rattle.rounding.proofs.Fractions.{frac, frac-le, nn-frac, not-above}
 use Rattle.rounding.proofs.Value.{val, val-value, value-is}
 use Rattle.rounding.proofs.Narrow.{unitOf}
-use Rattle.rounding.proofs.Held.{Digits, digits}
+use Rattle.rounding.proofs.Held.{digits}
 use Rattle.rounding.proofs.Distance.{at-most-in}
 use Rattle.rounding.proofs.Gaps.{Value, next-value}
 use Rattle.arithmetic.proofs.Signs.{order}
@@ -33,9 +31,6 @@ pub not-below : (y w : Float) → value y ≺ value w → val w ≤q val y → �
 not-below y w h l = h (at-most-in (value w) (value y) (subst (λ (u : ℚ). u ≤q cls (value y)) (val-value w) (subst (λ (u : ℚ). val w ≤q u) (val-value y) l)))
 
 module _ (w : Float) (held : Held binary32 w) where
-  d : Digits binary32 w
-  d = digits binary32 w (held .is-finite) (held .is-held)
-
   number : val w ≡ grains (digits binary32 w (held .is-finite) (held .is-held) .s) (digits binary32 w (held .is-finite) (held .is-held) .q * 2 ^ digits binary32 w (held .is-finite) (held .is-held) .j)
   number = let d = digits binary32 w (held .is-finite) (held .is-held) in value-is w (d .s) (d .q * 2 ^ d .j) (2 ^ 149) (pow-pos 149) (d .how)
 

@@ -1,28 +1,27 @@
 -- The bands of exp2 and exp10 that need no table: infinity, 1 near one, +0; and exp2's 2 ^ -149 and whole numbers.
 use mathlib.Core.Path.{_≡_, refl, sym, ap, ap₂, _∙_, subst}
 use mathlib.Core.Bool.{false}
-use mathlib.Core.List.{List, [], _∷_}
-use Prim.Native.Nat.{ℕ, zero, suc, _+_, _-_, _*_, _^_, _≤_, _<_}
-use native.Mathlib.Nat.{zero-lt-suc, le-trans, le-refl}
+use mathlib.Core.List.{[], _∷_}
+use Prim.Native.Nat.{ℕ, suc, _+_, _-_, _*_, _^_, _≤_}
+use native.Mathlib.Nat.{zero-lt-suc}
 use native.Mathlib.Omega.{arith}
 use lib.Dec.{T, lit≤}
 use lib.Pow.{pow-pos}
 use lib.IntN.{ℤ, pos, negsuc, natAbs}
 use lib.Ieee.{Float, inf, fin, binary32, fits, size}
-use lib.Ieee.Scale.{finite}
 use std.Quotient.{cls}
-use Rattle.exact.specs.Fraction.{Fraction, whole, integer, times, opposite, Same}
+use Rattle.exact.specs.Fraction.{Fraction, times, opposite, Same}
 use Rattle.exact.specs.Logarithm.{Base, binary, decimal, lowest}
 use Rattle.exact.specs.Laws.{of-base}
 use Rattle.exact.specs.Exact.{exp2}
 use Rattle.exact.proofs.Ring.{con, _⊕_, _⊖_, _⊗_, ⊝, norm}
 use Rattle.exact.proofs.Integer.{x₀, x₁, x₂, x₃, x₄}
 use Rattle.exact.proofs.Rational.{ℚ, is, _+q_, _*q_, -q_, _-q_, ofℤ, qring}
-use Rattle.exact.proofs.Order.{nn, nn-add, nn-mul, _≤q_, le-by, q-refl, q-trans, q-add, q-neg, q-mul}
-use Rattle.exact.proofs.Bound.{ofℕ, inv, nn-ofℕ, ofℕ-mono, nn-le, le-nn, Bound, bound-more, bound-add, bound-neg, bound-mul, bound-self, bound-turn, bound-above, bound-below, mul-right, mul-mono}
-use Rattle.exact.proofs.Compare.{product-cls, neg-cls, integer-cls, fr, nn-fr, nn-dy}
+use Rattle.exact.proofs.Order.{nn, nn-add, nn-mul, _≤q_, le-by, q-trans, q-add, q-neg, q-mul}
+use Rattle.exact.proofs.Bound.{ofℕ, inv, nn-ofℕ, ofℕ-mono, nn-le, le-nn, Bound, bound-more, bound-add, bound-neg, bound-mul, bound-self, bound-turn, bound-above, bound-below, mul-right}
+use Rattle.exact.proofs.Compare.{product-cls, neg-cls, fr, nn-fr, nn-dy}
 use Rattle.exact.proofs.Relative.{Rel}
-use Rattle.exact.proofs.Series.{S, R, from, later}
+use Rattle.exact.proofs.Series.{S, from, later}
 use Rattle.exact.proofs.Product.{mult}
 use Rattle.exact.proofs.Growth.{S-zero, S-mono}
 use Rattle.exact.proofs.Negative.{far-below}

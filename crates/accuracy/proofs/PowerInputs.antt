@@ -1,31 +1,28 @@
 -- What the patterns of exp2's and exp10's bands say of the input as a number.
-use mathlib.Core.Path.{_≡_, refl, sym, ap, _∙_, subst}
-use mathlib.Core.Bool.{Bool, true, false, not}
-use mathlib.Core.List.{List, [], _∷_}
-use mathlib.Core.Logic.{_⊎_, inl, inr, ⊎-elim}
-use Prim.Native.Nat.{ℕ, suc, _+_, _-_, _*_, _^_, _≤_, _<_}
+use mathlib.Core.Path.{refl, sym, _∙_, subst}
+use mathlib.Core.Bool.{true, false}
+use mathlib.Core.List.{[]}
+use mathlib.Core.Logic.{_⊎_, inr, ⊎-elim}
+use Prim.Native.Nat.{ℕ, _+_, _-_, _*_, _^_, _≤_, _<_}
 use native.Mathlib.Nat.{le-trans, mul-le-mul-right}
 use native.Mathlib.Omega.{arith}
 use lib.Dec.{T, lit≤}
 use lib.Pow.{pow-pos}
-use lib.IntN.{ℤ, pos}
+use lib.IntN.{pos}
 use lib.Ieee.{Float, nan, inf, fin, binary32, fits, isNan, toBits}
 use lib.Ieee.Scale.{finite}
-use std.Quotient.{cls}
-use Rattle.exact.specs.Logarithm.{Base, binary, decimal}
-use Rattle.exact.proofs.Ring.{con, _⊕_, _⊖_, _⊗_, ⊝, norm}
-use Rattle.exact.proofs.Integer.{x₀}
+use Rattle.exact.specs.Logarithm.{binary, decimal}
+use Rattle.exact.proofs.Ring.{con, ⊝, norm}
 use Rattle.exact.proofs.Rational.{ℚ, _+q_, _*q_, -q_, _-q_, ofℤ, qring}
-use Rattle.exact.proofs.Order.{nn, _≤q_, le-by, q-trans, q-neg}
+use Rattle.exact.proofs.Order.{nn, _≤q_, q-trans, q-neg}
 use Rattle.exact.proofs.Bound.{ofℕ, nn-le, Bound, bound-more}
-use Rattle.rounding.proofs.Fractions.{frac, dy, frac-le, nn-frac, frac-neg}
+use Rattle.rounding.proofs.Fractions.{dy, nn-frac, frac-neg}
 use Rattle.rounding.proofs.Value.{val}
 use Rattle.rounding.proofs.Multiple.{Away}
 use Rattle.rounding.proofs.Patterns.{sized, size-of, size-mono, sized-mono}
 use Rattle.curves.specs.Steps.{pattern, magnitude}
 use Rattle.curves.specs.Exp2.{Exp2Reaches}
-use Rattle.curves.specs.Exp10.{Exp10Reaches}
-use Rattle.accuracy.proofs.Inputs.{Signed, positive, negative, signed-of, sized-bound}
+use Rattle.accuracy.proofs.Inputs.{positive, negative, signed-of, sized-bound}
 use Rattle.accuracy.proofs.PowerLimits.{last, first}
 
 -- at least the pattern c, which is at least 2 ^ -k
@@ -110,3 +107,11 @@ exp2-first x w t l h = q-trans (nums .3) (from-pattern x w t 0x4300_0000 l h)
 
 pub exp10-first : (x : Float) → T (fits binary32 x) → T (finite x) → pattern x < 2 ^ 31 → 0x421a_209b ≤ pattern x → first decimal ≤q val x
 exp10-first x w t l h = q-trans (nums .4) (from-pattern x w t 0x421a_209b l h)
+
+-- near zero: up to 1 / 32
+zero-nums : sized 0x3d00_0000 ≤q dy 1 5
+unfolding nn _-q_ _+q_ -q_
+zero-nums = record { le = tt }
+
+pub near-zero : (x : Float) → T (fits binary32 x) → T (finite x) → magnitude x ≤ 0x3d00_0000 → Bound (val x) (dy 1 5)
+near-zero x w t h = bound-more (size-up-to x w t 0x3d00_0000 h) zero-nums

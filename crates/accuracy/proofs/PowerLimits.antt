@@ -1,23 +1,22 @@
 -- Where 2 ^ x and 10 ^ x lie against the limit 2 ^ 128 - 2 ^ 103: at and below 0, up to the last input below it, and from the first input above it.
 use mathlib.Core.Path.{_≡_, refl, sym, ap, _∙_, subst}
-use mathlib.Core.List.{List, [], _∷_}
+use mathlib.Core.List.{[], _∷_}
 use mathlib.Core.Logic.{inl, inr}
-use Prim.Native.Nat.{ℕ, zero, suc, _+_, _-_, _*_, _^_, _≤_, _<_}
-use native.Mathlib.Nat.{zero-lt-suc, le-trans}
-use native.Mathlib.Omega.{arith}
+use Prim.Native.Nat.{ℕ, _+_, _-_, _*_, _^_, _≤_}
+use native.Mathlib.Nat.{zero-lt-suc}
 use lib.Dec.{T, lit≤}
 use lib.Pow.{pow-pos}
-use lib.IntN.{ℤ, pos, negsuc}
+use lib.IntN.{pos}
 use std.Quotient.{cls}
 use Rattle.exact.specs.Fraction.{Fraction, whole, times, absolute}
 use Rattle.exact.specs.Logarithm.{Base, binary, decimal}
 use Rattle.exact.specs.Laws.{of-base}
 use Rattle.exact.proofs.Ring.{con, _⊕_, _⊖_, _⊗_, ⊝, norm}
 use Rattle.exact.proofs.Integer.{x₀, x₁, x₂}
-use Rattle.exact.proofs.Rational.{ℚ, is, _+q_, _*q_, -q_, _-q_, ofℤ, qring}
+use Rattle.exact.proofs.Rational.{ℚ, _+q_, _*q_, -q_, _-q_, ofℤ, qring}
 use Rattle.exact.proofs.Order.{nn, nn-add, nn-mul, _≤q_, le-by, q-refl, q-trans, q-add, q-neg, q-mul, q-total}
 use Rattle.exact.proofs.Bound.{ofℕ, inv, nn-ofℕ, ofℕ-mono, nn-le, le-nn, Bound, bound-more, bound-turn, bound-above, bound-below, mul-right}
-use Rattle.exact.proofs.Compare.{product-cls, whole-cls, fr, nn-fr, own-size, abs-nn, bound-abs}
+use Rattle.exact.proofs.Compare.{product-cls, whole-cls, fr, nn-fr, abs-nn, bound-abs}
 use Rattle.exact.proofs.Series.{S, R, from, later}
 use Rattle.exact.proofs.Vanish.{Place, vanishes}
 use Rattle.exact.proofs.Growth.{S-mono, R-mono}
@@ -25,7 +24,7 @@ use Rattle.exact.proofs.Negative.{S-negative}
 use Rattle.exact.proofs.Compute.{run, test, held}
 use Rattle.exact.proofs.Logarithm.{low, cut, root, low-near-root, low-nn, low-bound}
 use Rattle.rounding.proofs.Fractions.{dy}
-use Rattle.accuracy.proofs.Outcome.{sum, Under, Over}
+use Rattle.accuracy.proofs.Outcome.{sum, Under}
 
 -- the sums of b ^ x are those of e ^ (x l), for l the lower end of a bracket of ln b
 pub sum-is : (b : Base) (x : Fraction) (j n : ℕ) → sum (of-base b) x j n ≡ S (cls x *q low b (from 80 j)) n

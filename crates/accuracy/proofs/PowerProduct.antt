@@ -1,8 +1,8 @@
 -- The steps that exp2 and exp10 share past their splits: mh, a row with a power of two, times the polynomial at lo. What is computed is within 2 ^ -50 of it, in parts of mh, and every argument lies in the range of the law.
 use mathlib.Core.Path.{_≡_, refl, subst}
-use mathlib.Core.List.{List, [], _∷_}
+use mathlib.Core.List.{[], _∷_}
 use mathlib.Core.Logic.{inr}
-use Prim.Native.Nat.{ℕ, _+_, _-_, _*_, _^_, _≤_}
+use Prim.Native.Nat.{_+_, _-_, _*_, _^_, _≤_}
 use lib.Dec.{T, lit≤}
 use lib.IntN.{pos}
 use lib.Ieee.{Float, binary64, mul, ofBits, fits}
@@ -18,13 +18,15 @@ use Rattle.rounding.specs.Ranges.{Ranged, Permitted}
 use Rattle.rounding.proofs.Fractions.{dy}
 use Rattle.rounding.proofs.Value.{val, mul-rounds}
 use Rattle.rounding.proofs.Error.{eps, tiny, round-err}
-use Rattle.rounding.proofs.Horner.{Ball, ball-size, Step}
+use Rattle.rounding.proofs.Horner.{ball-size, Step}
 use Rattle.rounding.proofs.Multiple.{mult-mul, mult-away, away-more, away-mul, away-above, Away, round-mult, round-away}
-use Rattle.rounding.proofs.Range.{FmaLaw, ranged, ranged-finite, permitted-fits}
+use Rattle.rounding.proofs.Range.{FmaLaw, ranged, ranged-finite}
 use Rattle.rounding.proofs.Scaled.{part, part₂, above, mul-part, fma-part}
 use Rattle.curves.specs.Steps.{double, timesPower}
 use Rattle.curves.proofs.Decimal.{Ready, ready-range}
-use Rattle.accuracy.proofs.Horner.{Stage, Numbers, horner}
+use Rattle.curves.proofs.Law.{ranged-in}
+use Rattle.accuracy.specs.PowerArguments.{InRange, Handed, ProductArguments}
+use Rattle.accuracy.proofs.Horner.{Stage, horner}
 
 -- ---- five coefficients, and 1
 abbrev pub unit : Float
@@ -33,6 +35,13 @@ unit = double 0x3ff0_0000_0000_0000
 pub unit-range : Ranged binary64 400 unit
 unfolding ofBits fits
 unit-range = (tt, inr (lit≤ tt, lit≤ tt))
+
+-- a range of the law
+in-range : {x : Float} → Ranged binary64 400 x → InRange x
+in-range {x} r = let w = ranged-in binary64 399 x r in record { fit = w .0; range = w .1 }
+
+pub handed : {x y z : Float} → Ranged binary64 400 x → Ranged binary64 400 y → Ranged binary64 400 z → Handed x y z
+handed a b c = record { first = in-range a; second = in-range b; third = in-range c }
 
 -- what is asked of the coefficients: their range, their sizes, and that two of them are not small
 pub record Coefficients (k₀ k₁ k₂ k₃ k₄ : Float) : Type 0 where
@@ -96,7 +105,7 @@ same a = subst (λ (u : ℚ). Bound u (dy 1 60)) (qring (con (pos 0)) (x₀ ⊖ 
     none : Bound (ofℤ (pos 0)) (dy 1 60)
     none = unfold nn _-q_ _+q_ -q_ ofℤ in record { hi = record { le = tt }; lo = record { le = tt } }
 
-start : (k : Float) (V : ℚ) → Ranged binary64 400 k → Bound (val k) V → Stage k (val k) V (dy 1 60)
+pub start : (k : Float) (V : ℚ) → Ranged binary64 400 k → Bound (val k) V → Stage k (val k) V (dy 1 60)
 start k V r b = record { ball = record { is-finite = ranged-finite binary64 400 k r; off = same (val k); size = b }; range = r }
 
 module _ (fma : Float → Float → Float → Float) (law : FmaLaw binary64 400 fma) (k₀ k₁ k₂ k₃ k₄ : Float) (c : Coefficients k₀ k₁ k₂ k₃ k₄) (lo mh : Float) (rl : Ready 100 lo) (bl : Bound (val lo) (dy 1 7))
@@ -286,15 +295,12 @@ module _ (fma : Float → Float → Float → Float) (law : FmaLaw binary64 400 
       range-nums : (dy 5 0 *q (dy 1 7 *q dy 1 7) +q dy 1 7 *q dy 5 1 ≤q dy 1 5) × (dy 31 5 +q dy 1 5 ≤q val unit) × (dy 1 5 +q val unit ≤q dy 33 5)
       range-nums = unfold nn _-q_ _+q_ -q_ _*q_ val ofBits in (record { le = tt }, record { le = tt }, record { le = tt })
 
-  -- ---- every argument of the six multiply-adds
-  pub record Arguments : Type 0 where
-    pub at-lo : Ranged binary64 400 lo
-    pub at-square : Ranged binary64 400 (mul binary64 lo lo)
-    pub at-first : Ranged binary64 400 (fma lo k₂ k₁)
-    pub at-second : Ranged binary64 400 (fma lo k₄ k₃)
-    pub at-inner : Ranged binary64 400 (fma (mul binary64 lo lo) (fma lo k₄ k₃) (fma lo k₂ k₁))
-    pub at-product : Ranged binary64 400 (mul binary64 (mul binary64 lo lo) mh)
-    pub at-row : Ranged binary64 400 (mul binary64 (fma lo k₀ unit) mh)
-
-  pub arguments : Arguments
-  arguments = record { at-lo = lo-range; at-square = sq-range; at-first = stage₁ .range; at-second = stage₂ .range; at-inner = stage-p .range; at-product = q₁-range; at-row = q₀-range }
+  -- ---- every argument of the steps
+  pub product-arguments : ProductArguments fma lo mh k₀ k₁ k₂ k₃ k₄
+  product-arguments = record {
+    constant = handed lo-range (c .in₀) unit-range;
+    second = handed lo-range (c .in₂) (c .in₁);
+    fourth = handed lo-range (c .in₄) (c .in₃);
+    inner = handed sq-range (stage₂ .range) (stage₁ .range);
+    last = handed (stage-p .range) q₁-range q₀-range;
+  }

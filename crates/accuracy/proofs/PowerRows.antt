@@ -2,28 +2,25 @@
 use mathlib.Core.Path.{_≡_, refl, sym, ap, _∙_, subst}
 use mathlib.Core.Bool.{false}
 use mathlib.Core.List.{List, [], _∷_}
-use Prim.Native.Nat.{ℕ, suc, _+_, _-_, _*_, _^_, _≤_, _<_}
+use Prim.Native.Nat.{ℕ, _+_, _-_, _*_, _^_, _≤_, _<_}
 use native.Mathlib.Nat.{zero-lt-suc, le-trans, le-of-suc-le, mul-pos}
 use native.Mathlib.Omega.{arith}
-use lib.Dec.{T, lit≤, le→leb}
+use lib.Dec.{T, lit≤}
 use lib.Pow.{pow-pos, pow-add}
 use lib.IntN.{pos}
 use lib.ListN.{length, getD}
-use lib.Ieee.{Float}
-use std.Quotient.{cls}
 use Rattle.exact.specs.Logarithm.{binary}
-use Rattle.exact.proofs.Ring.{con, _⊕_, _⊖_, _⊗_, ⊝, norm}
-use Rattle.exact.proofs.Integer.{x₀, x₁}
+use Rattle.exact.proofs.Ring.{con, _⊗_, norm}
+use Rattle.exact.proofs.Integer.{x₀}
 use Rattle.exact.proofs.Rational.{ℚ, _+q_, _*q_, -q_, _-q_, ofℤ, qring}
 use Rattle.exact.proofs.Order.{nn, _≤q_, q-trans, q-mul}
-use Rattle.exact.proofs.Bound.{ofℕ, nn-ofℕ, Bound, bound-more, bound-mul, bound-self, bound-turn}
+use Rattle.exact.proofs.Bound.{ofℕ, Bound, bound-more, bound-mul, bound-self, bound-turn}
 use Rattle.exact.proofs.Compare.{fr, nn-dy, nn-fr, fr-le}
-use Rattle.exact.proofs.Relative.{Rel}
 use Rattle.exact.proofs.Series.{S}
 use Rattle.exact.proofs.Compute.{run, test}
 use Rattle.exact.proofs.Logarithm.{root}
 use Rattle.exact.proofs.Table.{every, power-test, power-row}
-use Rattle.rounding.proofs.Fractions.{dy, frac, frac-same}
+use Rattle.rounding.proofs.Fractions.{dy, frac-same}
 use Rattle.rounding.proofs.Value.{val, value-is}
 use Rattle.curves.specs.Tables.{exp2Mid, exp2fTable}
 use Rattle.curves.specs.Steps.{double, row}

@@ -1,7 +1,7 @@
 -- A row with a power of two times the polynomial is within 2 ^ -43 of e ^ t, relative to it, where t is within 2 ^ -58 of the sum of the three logarithms: what exp2 and exp10 share.
 use mathlib.Core.Path.{_≡_, refl, sym, ap, _∙_, subst}
-use mathlib.Core.List.{List, [], _∷_}
-use Prim.Native.Nat.{ℕ, zero, suc, _+_, _-_, _*_, _^_, _≤_, _<_}
+use mathlib.Core.List.{[], _∷_}
+use Prim.Native.Nat.{ℕ, suc, _+_, _-_, _*_, _^_, _≤_, _<_}
 use native.Mathlib.Nat.{le-trans}
 use native.Mathlib.Omega.{arith}
 use lib.Dec.{T, lit≤}
@@ -11,15 +11,15 @@ use lib.Ieee.{Float, binary64, ofBits}
 use lib.Ieee.Scale.{finite}
 use borrow.Author.Differences.{ints, le-in}
 use std.Quotient.{cls}
-use Rattle.exact.specs.Logarithm.{Base, binary, decimal}
+use Rattle.exact.specs.Logarithm.{Base, binary}
 use Rattle.exact.proofs.Ring.{con, _⊕_, _⊖_, _⊗_, ⊝, norm}
 use Rattle.exact.proofs.Integer.{zring, x₀, x₁, x₂, x₃, x₄, x₅, x₆}
 use Rattle.exact.proofs.Rational.{ℚ, is, _+q_, _*q_, -q_, _-q_, ofℤ, qring}
-use Rattle.exact.proofs.Order.{nn, nn-mul, _≤q_, le-by, q-refl, q-trans, q-add, q-mul}
+use Rattle.exact.proofs.Order.{nn, nn-mul, _≤q_, le-by, q-trans, q-add, q-mul}
 use Rattle.exact.proofs.Bound.{ofℕ, inv, nn-ofℕ, ofℕ-mono, nn-le, le-nn, Bound, bound-more, bound-add, bound-mul, bound-self, bound-neg, mul-right, mul-mono}
 use Rattle.exact.proofs.Compare.{fr, nn-dy, dy-mono, leq-in}
-use Rattle.exact.proofs.Relative.{Rel, rel-more, rel-mul}
-use Rattle.exact.proofs.Series.{term, S, R, from, later, tail}
+use Rattle.exact.proofs.Relative.{Rel, rel-mul}
+use Rattle.exact.proofs.Series.{term, S, R, later, tail}
 use Rattle.exact.proofs.Product.{mult₃}
 use Rattle.exact.proofs.Shift.{shifted}
 use Rattle.exact.proofs.Logarithm.{root}

@@ -1,30 +1,30 @@
 -- A power of ten up to 10 ^ 10 is an f32, and the figure of an f64 within 2 ^ -42 of it is that f32.
 use mathlib.Core.Path.{_≡_, refl, sym, ap, ap₂, _∙_, subst}
-use mathlib.Core.Bool.{Bool, true, false}
-use mathlib.Core.List.{List, [], _∷_}
-use mathlib.Core.Logic.{_⊎_, inl, inr}
-use Prim.Native.Nat.{ℕ, suc, _+_, _-_, _*_, _^_, _<_, _≤_}
-use native.Mathlib.Nat.{zero-lt-suc, le-of-lt, le-trans, le-of-eq, mul-le-mul-right}
+use mathlib.Core.Bool.{Bool, false}
+use mathlib.Core.List.{[], _∷_}
+use mathlib.Core.Logic.{inl, inr}
+use Prim.Native.Nat.{ℕ, _+_, _-_, _*_, _^_, _<_, _≤_}
+use native.Mathlib.Nat.{zero-lt-suc, le-of-lt, le-trans, le-of-eq}
 use native.Mathlib.Omega.{arith}
-use lib.Dec.{T, eqb, ltb, eqb→eq, ltb→lt, lit≤}
+use lib.Dec.{T, eqb, ltb, eqb→eq, ltb→lt}
 use lib.Pow.{pow-pos, pow-add, pow-mono}
-use lib.IntN.{ℤ, pos}
+use lib.IntN.{pos}
 use lib.ListN.{replicate}
-use lib.Ieee.{Float, nan, inf, fin, binary32, fits, size, up, down}
+use lib.Ieee.{Float, nan, inf, fin, binary32, fits, size}
 use lib.Ieee.Digits.{size-lt}
 use lib.Ieee.Exact.{HasValue}
-use lib.Ieee.Scale.{finite, grid}
+use lib.Ieee.Scale.{finite}
 use std.Quotient.{cls}
 use Rattle.std.specs.Floats.{nearestIn}
 use Rattle.exact.specs.Fraction.{Same, whole, absolute, apart, _≼_}
-use Rattle.exact.proofs.Ring.{_⊕_, _⊖_, _⊗_, ⊝, norm}
-use Rattle.exact.proofs.Integer.{x₀, x₁, x₂}
+use Rattle.exact.proofs.Ring.{_⊕_, _⊗_, norm}
+use Rattle.exact.proofs.Integer.{x₀, x₁}
 use Rattle.exact.proofs.Rational.{ℚ, is, _+q_, _*q_, -q_, _-q_, ofℤ, qring}
-use Rattle.exact.proofs.Order.{nn, _≤q_, q-trans, q-add}
+use Rattle.exact.proofs.Order.{nn, _≤q_, q-trans}
 use Rattle.exact.proofs.Bound.{ofℕ, nn-ofℕ, absq, bound-abs, Bound, bound-more, bound-turn, bound-via, bound-above, mul-right}
 use Rattle.exact.proofs.Compare.{whole-cls}
 use Rattle.rounding.specs.Values.{value, sign}
-use Rattle.rounding.specs.Nearest.{Held, limit}
+use Rattle.rounding.specs.Nearest.{limit}
 use Rattle.rounding.proofs.Fractions.{dy, frac, frac-le-out}
 use Rattle.rounding.proofs.Value.{val, val-value, value-is}
 use Rattle.rounding.proofs.Narrow.{unitOf}

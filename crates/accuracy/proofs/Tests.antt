@@ -1,9 +1,9 @@
 -- Tests of patterns, and which way a chain of them goes.
 use mathlib.Core.Path.{_≡_, refl, ap, ap₂, _∙_}
-use mathlib.Core.Bool.{Bool, true, false, not, cond, _&&_}
+use mathlib.Core.Bool.{Bool, true, false, cond, _&&_}
 use Prim.Native.Nat.{ℕ, _<_, _≤_}
 use native.Mathlib.Omega.{arith}
-use lib.Dec.{T, leb, ltb, leb→le, ltb→lt, le→leb, lt→ltb, not-T}
+use lib.Dec.{leb, ltb, leb→le, ltb→lt, le→leb, lt→ltb, not-T}
 use lib.Ieee.{Float}
 use lib.Ieee.Bits.{is-true, is-false}
 

@@ -3,6 +3,7 @@
 //! What is promised of a figure stands in specs/. Each function below states in its contract one theorem about a curve's steps.
 
 pub mod functions;
+pub mod powers;
 
 ghost use Rattle.exact.specs.Exact.{exp, expm1};
 ghost use Rattle.accuracy.specs.Theorems.{Proved};

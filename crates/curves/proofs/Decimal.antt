@@ -61,7 +61,7 @@ constants-finite : T (finite log2Ten) × T (finite minusLogHi) × T (finite minu
 unfolding ofBits
 constants-finite = (tt, tt, tt)
 
-constants-ranged : Ranged binary64 400 minusLogHi × Ranged binary64 400 minusLogLo
+pub constants-ranged : Ranged binary64 400 minusLogHi × Ranged binary64 400 minusLogLo
 unfolding ofBits fits
 constants-ranged = ((tt, inr (lit≤ tt, lit≤ tt)), (tt, inr (lit≤ tt, lit≤ tt)))
 
@@ -112,7 +112,7 @@ ready-range x B h r b l = ranged binary64 400 x (r .is-fit) (r .is-finite) (away
 
 -- ---- the rounded product
 module _ (x : Float) (fx : T (finite x)) (bx : Bound (val x) (ofℕ 46)) where
-  product-err : T (finite (mul binary64 log2Ten x)) × Bound (val (mul binary64 log2Ten x) -q val log2Ten *q val x) (dy 1 40)
+  pub product-err : T (finite (mul binary64 log2Ten x)) × Bound (val (mul binary64 log2Ten x) -q val log2Ten *q val x) (dy 1 40)
   product-err =
       let w = round-err binary64 (mul binary64 log2Ten x) (val log2Ten *q val x) (dy 111465411 20 *q ofℕ 46) 20 (mul-rounds binary64 log2Ten x (constants-finite .0) fx) (bound-mul (sizes .0) bx) (nums .0) (lit≤ tt) in
       (w .is-finite, bound-more (w .off) (nums .1))

@@ -24,7 +24,7 @@ use Rattle.rounding.proofs.Value.{val, val-value}
 use Rattle.rounding.proofs.Distance.{within-out}
 use Rattle.rounding.proofs.Range.{FmaLaw}
 use Rattle.rounding.proofs.WholeNumber as WholeNumber
-use Rattle.arithmetic.specs.Arithmetic.{Arithmetic, Lawful, RoundsAway, Nearest, OneOrTwo, MulAdd, within}
+use Rattle.arithmetic.specs.Arithmetic.{Arithmetic, Lawful, RoundsAway, Nearest, OneOrTwo, MulAdd, within, small}
 use Rattle.arithmetic.proofs.Digits.{within-zero, within-range, small-in}
 
 -- ---- two names of one test
@@ -41,7 +41,7 @@ finite-out (inf s) t = absurd t
 finite-out (fin s m e) t = tt
 
 -- ---- multiply-adds
-ranged-in : (f : Format) (n : ℕ) (x : Float) → Ranged f (suc n) x → T (fits f x) × T (within (suc n) x)
+pub ranged-in : (f : Format) (n : ℕ) (x : Float) → Ranged f (suc n) x → T (fits f x) × T (within (suc n) x)
 ranged-in f n nan r = absurd r
 ranged-in f n (inf s) r = absurd r
 ranged-in f n (fin s m e) r = (
@@ -73,16 +73,19 @@ pub fmaf-law : (a : Arithmetic) → Lawful a → FmaLaw binary32 60 (a .fmaf)
 fmaf-law a v = multiply-add binary32 59 (a .fmaf) (v .fmaf-law)
 
 -- ---- roundings to a whole number
-pub in-range : (f : Format) (p r : Float) → T (fits f p) → T (finite p) → Bound (val p) (ofℕ (2 ^ 21)) → Nearest f p r → RoundsAway f p r
+pub small-in-range : (p : Float) → T (finite p) → Bound (val p) (ofℕ (2 ^ 21)) → T (small p)
 unfolding val ofℕ ofℤ
-in-range f nan r w t b law = absurd t
-in-range f (inf s) r w t b law = absurd t
-in-range f (fin s m e) r w t b law =
+small-in-range nan t b = absurd t
+small-in-range (inf s) t b = absurd t
+small-in-range (fin s m e) t b =
     let u : m * up e * 1 ≤ 2 ^ 21 * down e = frac-le-out (m * up e) (down e) (2 ^ 21) 1 (down-pos e) (zero-lt-suc 0) (size-under s (m * up e) (down e) (down-pos e) _ b) in
-    law w (small-in (fin s m e) s (m * up e) (down e) (down-pos e) (refl, refl) (less (m * up e) (down e) (down-pos e) u))
+    small-in (fin s m e) s (m * up e) (down e) (down-pos e) (refl, refl) (less (m * up e) (down e) (down-pos e) u)
   where
     less : (a d : ℕ) → 0 < d → a * 1 ≤ 2 ^ 21 * d → a < 4194304 * d
     less a d p h = omega arith
+
+pub in-range : (f : Format) (p r : Float) → T (fits f p) → T (finite p) → Bound (val p) (ofℕ (2 ^ 21)) → Nearest f p r → RoundsAway f p r
+in-range f p r w t b law = law w (small-in-range p t b)
 
 half-away : (q : Fraction) (z : ℤ) → NearWhole q z → apart q (integer z) ≼ dyadic (pos 1) 1
 half-away q z h = omega (arith, ints, h)
