@@ -11,8 +11,8 @@ use crate::polyeval::polyeval5;
 use crate::tables::EXP_M1;
 use crate::tables::EXP_M2;
 use arithmetic::ExpfBackend;
+use fast::narrow;
 use std::num::f32_to_f64_with_nan;
-use std::num::nearest_f64_to_f32_with_nan;
 use std::num::saturating_f32_to_i32;
 
 // e^(i - 104), within one unit.
@@ -81,7 +81,7 @@ fn exp_tables<B: ExpfBackend>(arith: &B, x: f32) -> f32
     ensures { λ r. ⌜ r ≡ expTables (B·ExpfBackend .meaning (now (arith .entry))) x ⌝ }
 {
     let ExpFactors { p, hi, mid } = factors(arith, x);
-    nearest_f64_to_f32_with_nan(p * hi * mid)
+    narrow(p * hi * mid)
 }
 
 #[derive(Clone, Copy)]
