@@ -1,2 +1,3 @@
 pub mod Patterns
 pub mod Narrowing
+pub mod Rounding
