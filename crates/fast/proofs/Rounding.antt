@@ -15,18 +15,9 @@ use lib.Ieee.Bits.{ofBits-toBits, toBits-lt, nanBits-is}
 use lib.Ieee.Exact.{HasValue, odd-sign}
 use lib.Ieee.Nearest.{div-same}
 use Rattle.std.specs.Floats.{roundAway, wholeBy, withSign}
-use Rattle.fast.proofs.Patterns.{signed-units, signed-bits, sign-of, value}
-
--- where the point stands: s places in, and one place more than there are digits is as good as any further
-abbrev Point : Format → ℕ → ℕ → Type 0
-Point f e s = ((e < low f - prec f) × (s ≡ suc (prec f))) ⊎ ((low f - prec f ≤ e) × (s ≡ suc (low f) - e))
-
-point : (f : Format) (e s : ℕ) → (e < low f - prec f → s ≡ suc (prec f)) → (low f - prec f ≤ e → s ≡ suc (low f) - e) → Point f e s
-point f e s l h =
-    elim (eq-zero-or-pos (low f - prec f - e)) [
-      | inl z ↦ let g : low f - prec f ≤ e = omega arith in inr (g, h g)
-      | inr p ↦ let g : e < low f - prec f = omega arith in inl (g, l g)
-    ]
+use Rattle.fast.proofs.Patterns.{signed-units, signed-bits, sign-of}
+use Rattle.fast.specs.Point.{Places}
+use Rattle.fast.proofs.Placing.{Under, Placed, less, more, placed, digits}
 
 -- the digits and a half, without what stands after the point
 abbrev pub count : Format → ℕ → ℕ → ℕ
@@ -53,10 +44,6 @@ away-at f (fin false m e) s N D p v =
 shift-is : (f : Format) (k : ℕ) → k ≤ prec f → (1 * 2 ^ k) % (2 * top f) ≡ 2 ^ k
 shift-is binary32 k h = shl-exact {a = 1} 1 k 32 (omega arith) (omega arith) ∙ omega arith
 shift-is binary64 k h = shl-exact {a = 1} 1 k 64 (omega arith) (omega arith) ∙ omega arith
-
-digits : (f : Format) (b : ℕ) → (b % top f % hid f + hid f ≡ hid f + b % hid f) × (hid f + b % hid f < 2 ^ prec f)
-digits binary32 b = (omega arith, omega arith)
-digits binary64 b = (omega arith, omega arith)
 
 count-is : (f : Format) (b k : ℕ) → k ≤ prec f → count f b (suc k) ≡ (hid f + b % hid f + 2 ^ k) / (2 * 2 ^ k)
 count-is f b k h =
@@ -90,10 +77,6 @@ low-count f b = count-is f b (prec f) (omega arith) ∙ under (hid f + b % hid f
     under : (q H : ℕ) → q < H → (q + H) / (2 * H) ≡ 0
     under q H h = div-eq-of-lt (omega arith)
 
-subnormal : (f : Format) (b : ℕ) → b % top f / hid f ≡ 0 → HasValue (ofBits f b) (leb (top f) b) (b % hid f * 2 ^ 0) (2 ^ low f)
-unfolding ofBits ofFields
-subnormal f b e = subst (λ (k : ℕ). HasValue (ofFields f (leb (top f) b) k (b % hid f)) (leb (top f) b) (b % hid f * 2 ^ 0) (2 ^ low f)) (sym e) (odd-sign (prec f) (leb (top f) b) (b % hid f) 0 (low f))
-
 signed-round : (f : Format) (s : Bool) (a c : ℕ) → withSign s (round f false a c) ≡ round f s a c
 signed-round f s a c = ap (withSign s) (round-is f false a c) ∙ signed-units f s _ _ ∙ sym (round-is f s a c)
 
@@ -120,55 +103,18 @@ bounded : (f : Format) (m H : ℕ) → m < 2 ^ prec f → 0 < H → (m + H) / (2
 bounded binary32 m H a p = let l : (m + H) / (2 * H) < suc (2 ^ 23) = div-lt-iff-lt-mul (mul-pos {m = 2} (omega arith) p) .1 (omega arith) in omega arith
 bounded binary64 m H a p = let l : (m + H) / (2 * H) < suc (2 ^ 52) = div-lt-iff-lt-mul (mul-pos {m = 2} (omega arith) p) .1 (omega arith) in omega arith
 
--- the field of an exponent below the format's whole numbers, and the places after the point
-abbrev Places : Format → ℕ → ℕ → Type 0
-Places f e s = (j : ℕ) × (k : ℕ) × (e ≡ suc j) × (s ≡ suc k) × (j + suc k ≡ low f) × (k ≤ prec f) × (suc j < ones f)
+count-small : (f : Format) (b s : ℕ) → Placed f b s → count f b s ≤ hid f
+count-small f b s (less N v t e) = let z : count f b s ≡ 0 = ap (count f b) e ∙ low-count f b in omega arith
+count-small f b s (more j k v e g l) =
+    subst (λ (n : ℕ). n ≤ hid f) (sym (ap (count f b) e ∙ count-is f b k l)) (bounded f (hid f + b % hid f) (2 ^ k) (digits f b .1) (pow-pos k))
 
-places : (f : Format) (e s : ℕ) → e < suc (low f) → low f - prec f ≤ e → s ≡ suc (low f) - e → Places f e s
-places binary32 e s l h g = (e - 1, 149 - e, omega arith, omega arith, omega arith, omega arith, omega arith)
-places binary64 e s l h g = (e - 1, 1074 - e, omega arith, omega arith, omega arith, omega arith, omega arith)
-
-count-small : (f : Format) (b s : ℕ) → b % top f / hid f < suc (low f) → Point f (b % top f / hid f) s → count f b s ≤ hid f
-count-small f b s l (inl p) = let e : count f b s ≡ 0 = ap (count f b) (p .1) ∙ low-count f b in omega arith
-count-small f b s l (inr p) =
-    let z = places f (b % top f / hid f) s l (p .0) (p .1) in
-    subst (λ (k : ℕ). k ≤ hid f) (sym (ap (count f b) (z .3) ∙ count-is f b (z .1) (z .5))) (bounded f (hid f + b % hid f) (2 ^ (z .1)) (digits f b .1) (pow-pos (z .1)))
-
-twice-below : (N j l : ℕ) → N < 2 ^ j → suc j ≤ l → 2 * N < 2 ^ l
-twice-below N j l h g =
-    let t : 2 * N < 2 ^ suc j = omega arith in
-    lt-of-lt-of-le t (pow-mono g)
-
-below-half : (f : Format) (b j : ℕ) → suc j < low f - prec f → 2 * ((hid f + b % hid f) * 2 ^ j) < 2 ^ low f
-below-half f b j h = twice-below ((hid f + b % hid f) * 2 ^ j) (prec f + j) (low f) (shl-lt {a = hid f + b % hid f} (prec f) j (digits f b .1)) (omega arith)
-
-tiny : (f : Format) (b : ℕ) → 2 * (b % hid f * 2 ^ 0) < 2 ^ low f
-tiny f b = twice-below (b % hid f * 2 ^ 0) (prec f) (low f) (omega (arith, digits f b .1)) (far f)
-  where
-    far : (f : Format) → suc (prec f) ≤ low f
-    far binary32 = omega arith
-    far binary64 = omega arith
-
-inside : (f : Format) (j : ℕ) → suc j < low f - prec f → suc j < ones f
-inside binary32 j h = omega arith
-inside binary64 j h = omega arith
-
-rounds : (f : Format) (b s : ℕ) → b % top f / hid f < suc (low f) → Point f (b % top f / hid f) s → roundAway f (ofBits f b) ≡ round f (leb (top f) b) (count f b s) 1
-rounds f b s l (inl p) =
-    let z : count f b s ≡ 0 = ap (count f b) (p .1) ∙ low-count f b in
-    elim (eq-zero-or-pos (b % top f / hid f)) [
-      | inl e ↦ away-at f (ofBits f b) (leb (top f) b) _ (2 ^ low f) (pow-pos (low f)) (subnormal f b e) ∙ ap (λ (k : ℕ). round f (leb (top f) b) k 1) (none (b % hid f * 2 ^ 0) (low f) (tiny f b) ∙ sym z)
-      | inr e ↦
-          let j : ℕ = b % top f / hid f - 1 in
-          let i : b % top f / hid f ≡ suc j = omega arith in
-          let g : suc j < low f - prec f = subst (λ (n : ℕ). n < low f - prec f) i (p .0) in
-          away-at f (ofBits f b) (leb (top f) b) _ (2 ^ low f) (pow-pos (low f)) (value f b j i (inside f j g))
-          ∙ ap (λ (k : ℕ). round f (leb (top f) b) k 1) (none _ (low f) (below-half f b j g) ∙ sym z)
-    ]
-rounds f b s l (inr p) =
-    let z = places f (b % top f / hid f) s l (p .0) (p .1) in
-    away-at f (ofBits f b) (leb (top f) b) _ (2 ^ low f) (pow-pos (low f)) (value f b (z .0) (z .2) (z .6))
-    ∙ ap (λ (k : ℕ). round f (leb (top f) b) k 1) (high (hid f + b % hid f) (z .0) (z .1) (low f) (z .4) ∙ sym (ap (count f b) (z .3) ∙ count-is f b (z .1) (z .5)))
+rounds : (f : Format) (b s : ℕ) → Placed f b s → roundAway f (ofBits f b) ≡ round f (leb (top f) b) (count f b s) 1
+rounds f b s (less N v t e) =
+    let z : count f b s ≡ 0 = ap (count f b) e ∙ low-count f b in
+    away-at f (ofBits f b) (leb (top f) b) N (2 ^ low f) (pow-pos (low f)) v ∙ ap (λ (n : ℕ). round f (leb (top f) b) n 1) (none N (low f) t ∙ sym z)
+rounds f b s (more j k v e g l) =
+    away-at f (ofBits f b) (leb (top f) b) _ (2 ^ low f) (pow-pos (low f)) v
+    ∙ ap (λ (n : ℕ). round f (leb (top f) b) n 1) (high (hid f + b % hid f) j k (low f) g ∙ sym (ap (count f b) e ∙ count-is f b k l))
 
 -- ---- the count as a float, with the sign put on
 
@@ -207,17 +153,11 @@ signed-number f b n W h =
     subst (λ (k : Bool). T (not k)) (sym (nanBits-is f _ ∙ ap isNan (signed f b n W h)))
     (number _ (leb (top f) b) n 1 (round-whole f (leb (top f) b) n (under-digits f n h)))
 
-field : (f : Format) (b : ℕ) → b % top f < suc (low f) * hid f → b % top f / hid f < suc (low f)
-field f b h = div-lt-iff-lt-mul (pow-pos (prec f - 1)) .1 h
-
 -- of a pattern below the format's whole numbers
-module _ (f : Format) (b s : ℕ) (under : b % top f < suc (low f) * hid f) (low-places : b % top f / hid f < low f - prec f → s ≡ suc (prec f)) (high-places : low f - prec f ≤ b % top f / hid f → s ≡ suc (low f) - b % top f / hid f) where
-  at : Point f (b % top f / hid f) s
-  at = point f (b % top f / hid f) s low-places high-places
-
+module _ (f : Format) (b s : ℕ) (under : Under f b) (places : Places f (b % top f) s) where
   pub small : count f b s ≤ hid f
-  small = count-small f b s (field f b under) at
+  small = count-small f b s (placed f b s under places)
 
   pub by-pattern : (x : Float) → T (fits f x) → b ≡ toBits f x → b < 2 * top f → ofBits f (b / top f * top f + toBits f (ofInt f (pos (count f b s)))) ≡ roundAway f x
   by-pattern x t e W =
-      signed f b (count f b s) W small ∙ sym (ap (roundAway f) (sym (ap (ofBits f) e ∙ ofBits-toBits f x t)) ∙ rounds f b s (field f b under) at)
+      signed f b (count f b s) W small ∙ sym (ap (roundAway f) (sym (ap (ofBits f) e ∙ ofBits-toBits f x t)) ∙ rounds f b s (placed f b s under places))

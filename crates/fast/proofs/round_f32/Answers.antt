@@ -6,22 +6,22 @@ use Rattle.fast.proofs.Rounding.{small, casts, cast-number, cast-bits, signed-
 use Rattle.fast.proofs.round_f32.Needs as need
 
 pub int-to-float-size : need.int-to-float-size
-int-to-float-size c = casts binary32 _ (small binary32 (c .f32-to-bits-with-nan-b .result) (c .places-f32-s .result) (c .if-a-lt1258291200 .taken) (c .places-f32-s .ensures .low) (c .places-f32-s .ensures .high))
+int-to-float-size c = casts binary32 _ (small binary32 (c .f32-to-bits-with-nan-b .result) (c .places-f32-s .result) (c .if-a-lt1258291200 .taken) (c .places-f32-s .ensures .places))
 
 pub float-to-bits-size : need.float-to-bits-size
-float-to-bits-size c = cast-number binary32 _ (small binary32 (c .f32-to-bits-with-nan-b .result) (c .places-f32-s .result) (c .if-a-lt1258291200 .taken) (c .places-f32-s .ensures .low) (c .places-f32-s .ensures .high))
+float-to-bits-size c = cast-number binary32 _ (small binary32 (c .f32-to-bits-with-nan-b .result) (c .places-f32-s .result) (c .if-a-lt1258291200 .taken) (c .places-f32-s .ensures .places))
 
 pub add-result : need.add-result
 add-result c =
-    let h = cast-bits binary32 _ (small binary32 (c .f32-to-bits-with-nan-b .result) (c .places-f32-s .result) (c .if-a-lt1258291200 .taken) (c .places-f32-s .ensures .low) (c .places-f32-s .ensures .high)) in
+    let h = cast-bits binary32 _ (small binary32 (c .f32-to-bits-with-nan-b .result) (c .places-f32-s .result) (c .if-a-lt1258291200 .taken) (c .places-f32-s .ensures .places)) in
     omega (arith, h, c .f32-to-bits-with-nan-b .ok)
 
 pub float-from-bits-result : need.float-from-bits-result
 float-from-bits-result c =
     signed-number binary32 (c .f32-to-bits-with-nan-b .result) _ (c .f32-to-bits-with-nan-b .ok)
-    (small binary32 (c .f32-to-bits-with-nan-b .result) (c .places-f32-s .result) (c .if-a-lt1258291200 .taken) (c .places-f32-s .ensures .low) (c .places-f32-s .ensures .high))
+    (small binary32 (c .f32-to-bits-with-nan-b .result) (c .places-f32-s .result) (c .if-a-lt1258291200 .taken) (c .places-f32-s .ensures .places))
 
 pub returns-then-a-lt1258291200 : need.returns-then-a-lt1258291200
 returns-then-a-lt1258291200 c =
-    by-pattern binary32 (c .f32-to-bits-with-nan-b .result) (c .places-f32-s .result) (c .if-a-lt1258291200 .taken) (c .places-f32-s .ensures .low) (c .places-f32-s .ensures .high)
+    by-pattern binary32 (c .f32-to-bits-with-nan-b .result) (c .places-f32-s .result) (c .if-a-lt1258291200 .taken) (c .places-f32-s .ensures .places)
     (c .args .x) (subst T (sym (c .good .0 .1)) tt) (c .f32-to-bits-with-nan-b .ensures) (c .f32-to-bits-with-nan-b .ok)
