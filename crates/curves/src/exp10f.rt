@@ -14,9 +14,9 @@ use crate::power::add_power;
 use crate::tables::EXP_2_MID;
 use arithmetic::ExpfBackend;
 use fast::narrow;
+use fast::to_i32;
 use std::num::f32_to_f64_with_nan;
 use std::num::f64_from_bits_with_nan;
-use std::num::saturating_f64_to_i32;
 
 // The bits of 2^(i / 32), within one unit.
 fn exp_2_mid(i: usize) -> u64
@@ -62,7 +62,7 @@ pub fn exp_b_range_reduc<B: ExpfBackend>(arith: &B, x: f32) -> ExpBReduc
     let kd = arith.round(LOG2_B * xd);
     let first = arith.fma(kd, M_LOGB_2_HI, xd);
     ExpBReduc {
-        hi: f64_from_bits_with_nan(exp10_row(saturating_f64_to_i32(kd))),
+        hi: f64_from_bits_with_nan(exp10_row(to_i32(kd))),
         lo: arith.fma(kd, M_LOGB_2_LO, first),
     }
 }
