@@ -4,6 +4,8 @@ ghost use lib.Ieee.{binary32, binary64};
 ghost use Rattle.arithmetic.specs.Arithmetic.{Arithmetic, Lawful, MulAdd, Nearest, TwoOperations, FusedInside, generic, fusing, fusedWithin, twoStep, within};
 ghost use Rattle.rounding.specs.Operations.{TiesToAway};
 ghost use Rattle.std.specs.Floats.{roundAway};
+use fast::round_f32;
+use fast::round_f64;
 
 // Four operations, each a fixed function of its arguments. None refuses.
 pub trait ExpfBackend {
@@ -45,13 +47,13 @@ fn two_step_f64(a: f64, b: f64, c: f64) -> f64
 fn whole_f32(x: f32) -> f32
     ensures { λ r. ⌜ r ≡ roundAway binary32 x ⌝ }
 {
-    f32::round(x)
+    round_f32(x)
 }
 
 fn whole_f64(x: f64) -> f64
     ensures { λ r. ⌜ r ≡ roundAway binary64 x ⌝ }
 {
-    f64::round(x)
+    round_f64(x)
 }
 
 // Two steps everywhere: the product is rounded, and then the sum.

@@ -9,11 +9,11 @@ use lib.Dec.{T, eqb, leb, ltb, eqb→eq, le→leb, leb→le}
 use lib.IntN.{ℤ, pos, negsuc, negℤ, natAbs, _+ℤ_}
 use lib.Signed.{_≤ℤ_, _<ℤ_, leZ}
 use lib.ListN.{replicate, getD}
-use lib.Ieee.{Float, nan, inf, fin, binary32, up, down, minus, eq, round, ofInt, toSigned, ofBits, ofFields, odd, isNan, nanBits}
-use lib.Ieee.Back.{round-whole}
+use lib.Ieee.{Float, nan, inf, fin, binary32, up, down, minus, eq, round, ofInt, toSigned, ofBits, ofFields, odd, fits, isNan, nanBits, toBits}
+use lib.Ieee.Back.{round-whole, whole-unique}
 use lib.Ieee.Bits.{is-true, is-false, nanBits-is}
 use lib.Ieee.Exact.{HasValue}
-use lib.Ieee.Fits.{down-pos, and-i, and-l, and-r, eq→eqb}
+use lib.Ieee.Fits.{down-pos, and-i, and-l, and-r, eq→eqb, round-fits}
 use mir.Syntax.{w32}
 use mir.Val.{SFits}
 use borrow.Author.Differences.{ints}
@@ -188,6 +188,39 @@ in-le e = record { le = subst T (sym e) tt }
 -- the outcome of the test, as the code has it
 pub tested : (x : Float) (k : ℤ) (b : Bool) → k ≡ toSigned 31 x → leZ (negsuc 148) k ≡ true → leZ k (pos 127) ≡ true → eq (ofInt binary32 k) x ≡ b → inPowers x ≡ b
 tested x k b e l h t = in-powers x k e (in-le l) (in-le h) ∙ t
+
+-- ---- the last 16 digits of such a number are 0
+zeros : Bool → ℕ → ℕ → Bool
+zeros s n b = eqb (toBits binary32 (round binary32 s n 1) % 65536) 0
+
+last-digits : (s : Bool) (n : ℕ) → n < 150 → toBits binary32 (round binary32 s n 1) % 65536 ≡ 0
+unfolding zeros toBits round
+last-digits false n h = eqb→eq (toBits binary32 (round binary32 false n 1) % 65536) 0 (at (zeros false) (replicate 150 0) tt n h)
+last-digits true n h = eqb→eq (toBits binary32 (round binary32 true n 1) % 65536) 0 (at (zeros true) (replicate 150 0) tt n h)
+
+power-digits : (x : Float) → T (fits binary32 x) → T (inPowers x) → toBits binary32 x % 65536 ≡ 0
+unfolding isWhole toSigned
+power-digits nan f t = absurd t
+power-digits (inf s) f t = absurd t
+power-digits (fin s m e) f t =
+    let K = m * up e / down e in
+    let z = toSigned 31 (fin s m e) in
+    let w : m * up e % down e ≡ 0 = eqb→eq (m * up e % down e) 0 (and-l _ (leZ (negsuc 148) z && leZ z (pos 127)) t) in
+    let g = and-r (eqb (m * up e % down e) 0) _ t in
+    let r = in-range s K (record { le = and-l (leZ (negsuc 148) z) _ g }) (record { le = and-r (leZ (negsuc 148) z) _ g }) in
+    let v : HasValue (fin s m e) s K 1 = (refl, exact (m * up e) (down e) (div-add-mod (m * up e) (down e)) w) in
+    ap (λ (y : Float). toBits binary32 y % 65536) (whole-unique binary32 (fin s m e) (round binary32 s K 1) s K f (round-fits binary32 s K 1) v (round-whole binary32 s K (omega (arith, r .0))))
+    ∙ last-digits s K (omega (arith, r .0))
+  where
+    exact : (a D : ℕ) → D * (a / D) + a % D ≡ a → a % D ≡ 0 → a * 1 ≡ a / D * D
+    exact a D e z = omega arith
+
+pub no-power : (x : Float) (p : ℕ) → T (fits binary32 x) → p ≡ toBits binary32 x → (p % 65536 ≡ 0 → ⊥) → inPowers x ≡ false
+no-power x p f e h = go (inPowers x) (power-digits x f)
+  where
+    go : (b : Bool) → (T b → toBits binary32 x % 65536 ≡ 0) → b ≡ false
+    go true t = absurd (h (ap (λ (n : ℕ). n % 65536) e ∙ t tt))
+    go false t = refl
 
 pub moved-fits : (k : ℤ) → negsuc 148 ≤ℤ k → k ≤ℤ pos 127 → SFits w32 (k +ℤ pos 149)
 moved-fits (pos n) l h = record { sfits = omega (arith, ints, h) }

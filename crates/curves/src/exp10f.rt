@@ -13,10 +13,10 @@ use crate::polyeval::times_power;
 use crate::power::add_power;
 use crate::tables::EXP_2_MID;
 use arithmetic::ExpfBackend;
+use fast::narrow;
+use fast::to_i32;
 use std::num::f32_to_f64_with_nan;
 use std::num::f64_from_bits_with_nan;
-use std::num::nearest_f64_to_f32_with_nan;
-use std::num::saturating_f64_to_i32;
 
 // The bits of 2^(i / 32), within one unit.
 fn exp_2_mid(i: usize) -> u64
@@ -62,7 +62,7 @@ pub fn exp_b_range_reduc<B: ExpfBackend>(arith: &B, x: f32) -> ExpBReduc
     let kd = arith.round(LOG2_B * xd);
     let first = arith.fma(kd, M_LOGB_2_HI, xd);
     ExpBReduc {
-        hi: f64_from_bits_with_nan(exp10_row(saturating_f64_to_i32(kd))),
+        hi: f64_from_bits_with_nan(exp10_row(to_i32(kd))),
         lo: arith.fma(kd, M_LOGB_2_LO, first),
     }
 }
@@ -86,7 +86,7 @@ fn exp10_small<B: ExpfBackend>(arith: &B, x: f32) -> f32
     const C6: f64 = 0.0680896810190996;
     let xd = f32_to_f64_with_nan(x);
     let p = polyeval7(arith, xd, C0, C1, C2, C3, C4, C5, C6);
-    nearest_f64_to_f32_with_nan(arith.fma(p, xd, 1.0))
+    narrow(arith.fma(p, xd, 1.0))
 }
 
 fn exp10_table<B: ExpfBackend>(arith: &B, x: f32) -> f32
@@ -103,7 +103,7 @@ fn exp10_table<B: ExpfBackend>(arith: &B, x: f32) -> f32
     // 0x3fe1429e74a98f43
     const C4: f64 = 0.539382198196542;
     let rr = exp_b_range_reduc(arith, x);
-    nearest_f64_to_f32_with_nan(times_power(arith, rr.lo, rr.hi, C0, C1, C2, C3, C4))
+    narrow(times_power(arith, rr.lo, rr.hi, C0, C1, C2, C3, C4))
 }
 
 #[derive(Clone, Copy)]

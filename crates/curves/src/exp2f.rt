@@ -15,10 +15,10 @@ use crate::power::power_of_two;
 use crate::power::whole_power;
 use crate::tables::EXP2F_TABLE;
 use arithmetic::ExpfBackend;
+use fast::narrow;
+use fast::to_i32;
 use std::num::f32_to_f64_with_nan;
 use std::num::f64_from_bits_with_nan;
-use std::num::nearest_f64_to_f32_with_nan;
-use std::num::saturating_f64_to_i32;
 
 // The bits of 2^(i / 64), within one unit.
 fn exp2f_entry(i: usize) -> u64
@@ -60,7 +60,7 @@ fn exp2_small<B: ExpfBackend>(arith: &B, x: f32) -> f32
     const C5: f64 = 0.00015403527055187592;
     let xd = f32_to_f64_with_nan(x);
     let p = polyeval6(arith, xd, C0, C1, C2, C3, C4, C5);
-    nearest_f64_to_f32_with_nan(arith.fma(p, xd, 1.0))
+    narrow(arith.fma(p, xd, 1.0))
 }
 
 fn exp2_table<B: ExpfBackend>(arith: &B, x: f32) -> f32
@@ -79,8 +79,8 @@ fn exp2_table<B: ExpfBackend>(arith: &B, x: f32) -> f32
     let xd = f32_to_f64_with_nan(x);
     let kd = arith.round(xd * 64.0);
     let lo = arith.fma(-0.015625, kd, xd);
-    let mh = f64_from_bits_with_nan(exp2_row(saturating_f64_to_i32(kd)));
-    nearest_f64_to_f32_with_nan(times_power(arith, lo, mh, C0, C1, C2, C3, C4))
+    let mh = f64_from_bits_with_nan(exp2_row(to_i32(kd)));
+    narrow(times_power(arith, lo, mh, C0, C1, C2, C3, C4))
 }
 
 #[derive(Clone, Copy)]

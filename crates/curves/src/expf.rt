@@ -11,9 +11,9 @@ use crate::polyeval::polyeval5;
 use crate::tables::EXP_M1;
 use crate::tables::EXP_M2;
 use arithmetic::ExpfBackend;
+use fast::narrow;
+use fast::to_i32;
 use std::num::f32_to_f64_with_nan;
-use std::num::nearest_f64_to_f32_with_nan;
-use std::num::saturating_f32_to_i32;
 
 // e^(i - 104), within one unit.
 fn exp_m1(i: usize) -> f64
@@ -68,7 +68,7 @@ pub(crate) fn factors<B: ExpfBackend>(arith: &B, x: f32) -> ExpFactors
     const C4: f64 = 0.041666666671038154;
     let kf = arith.roundf(x * 128.0);
     let lo = f32_to_f64_with_nan(arith.fmaf(kf, -0.0078125, x));
-    let (whole, rest) = rows(saturating_f32_to_i32(kf));
+    let (whole, rest) = rows(to_i32(f32_to_f64_with_nan(kf)));
     ExpFactors {
         p: polyeval5(arith, lo, 1.0, C1, C2, C3, C4),
         hi: exp_m1(whole),
@@ -81,7 +81,7 @@ fn exp_tables<B: ExpfBackend>(arith: &B, x: f32) -> f32
     ensures { λ r. ⌜ r ≡ expTables (B·ExpfBackend .meaning (now (arith .entry))) x ⌝ }
 {
     let ExpFactors { p, hi, mid } = factors(arith, x);
-    nearest_f64_to_f32_with_nan(p * hi * mid)
+    narrow(p * hi * mid)
 }
 
 #[derive(Clone, Copy)]

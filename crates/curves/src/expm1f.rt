@@ -8,8 +8,8 @@ use crate::expf::ExpFactors;
 use crate::expf::factors;
 use crate::polyeval::polyeval7;
 use arithmetic::ExpfBackend;
+use fast::narrow;
 use std::num::f32_to_f64_with_nan;
-use std::num::nearest_f64_to_f32_with_nan;
 
 fn expm1_small<B: ExpfBackend>(arith: &B, x: f32) -> f32
     ensures { λ r. ⌜ r ≡ expm1Small (B·ExpfBackend .meaning (now (arith .entry))) x ⌝ }
@@ -30,7 +30,7 @@ fn expm1_small<B: ExpfBackend>(arith: &B, x: f32) -> f32
     const C6: f64 = 2.480257494580395e-05;
     let xd = f32_to_f64_with_nan(x);
     let p = polyeval7(arith, xd, C0, C1, C2, C3, C4, C5, C6);
-    nearest_f64_to_f32_with_nan(arith.fma(p, xd * xd, xd))
+    narrow(arith.fma(p, xd * xd, xd))
 }
 
 fn expm1_tables<B: ExpfBackend>(arith: &B, x: f32) -> f32
@@ -38,7 +38,7 @@ fn expm1_tables<B: ExpfBackend>(arith: &B, x: f32) -> f32
     ensures { λ r. ⌜ r ≡ expm1Tables (B·ExpfBackend .meaning (now (arith .entry))) x ⌝ }
 {
     let ExpFactors { p, hi, mid } = factors(arith, x);
-    nearest_f64_to_f32_with_nan(arith.fma(p * hi, mid, -1.0))
+    narrow(arith.fma(p * hi, mid, -1.0))
 }
 
 // The lowest value, -1.

@@ -8,6 +8,7 @@ ghost use lib.Ieee.{fin, toSigned};
 ghost use Rattle.std.specs.Numbers.{remEuclid};
 ghost use Rattle.std.specs.declared.option.Option.the-variants.{Some, None};
 ghost use Rattle.curves.specs.Exp2.{inPowers, powerBits};
+use std::num::f32_to_bits_with_nan;
 use std::num::nearest_i32_to_f32;
 use std::num::saturating_f32_to_i32;
 
@@ -29,6 +30,10 @@ pub(crate) fn add_power(entry: u64, p: i32) -> u64
 pub(crate) fn whole_power(x: f32) -> Option<i32>
     ensures { λ r. ⌜ r ≡ cond (inPowers x) (Some (toSigned 31 x)) None ⌝ }
 {
+    // the last 16 digits of such a number are 0, which few others have
+    if f32_to_bits_with_nan(x) % 0x1_0000 != 0 {
+        return None;
+    }
     let k = saturating_f32_to_i32(x);
     if -149 <= k && k <= 127 && nearest_i32_to_f32(k) == x {
         Some(k)

@@ -13,5 +13,5 @@ rows-whole-requires g c κs =
     let f : T (fits binary32 (c .args .x)) = search needs in
     let a = g .B·ExpfBackend .meaning (c .args .arith .now) in
     let w = g .B·ExpfBackend·met .lawful (c .args .arith .now) in
-    let e : c .saturating-f32-to-i32 .result ≡ k a (c .args .x) = cc in
-    rw (toZ-ofZ w32 (c .saturating-f32-to-i32 .result) (record { sfits = c .saturating-f32-to-i32 .ok }), e) (exp-splits a w (c .args .x) f (c .pre) .1)
+    let e : c .to-i32 .result ≡ k a (c .args .x) = cc in
+    rw (toZ-ofZ w32 (c .to-i32 .result) (record { sfits = c .to-i32 .ok }), e) (exp-splits a w (c .args .x) f (c .pre) .1)

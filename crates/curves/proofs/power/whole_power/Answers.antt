@@ -1,13 +1,18 @@
-use mathlib.Core.Path.{_≡_, refl, sym, ap, _∙_}
+use mathlib.Core.Path.{_≡_, refl, sym, ap, subst, _∙_}
 use mathlib.Core.Bool.{Bool, true, false}
+use lib.Dec.{T}
 use lib.Ieee.{Float, toSigned, eq}
 use mir.Syntax.{w32}
 use mir.Val.{toZ, ofZ}
 use Rattle.std.proofs.shelf.Signed.{toZ-ofZ}
 use Rattle.std.specs.declared.option.Option.the-variants.{Some}
-use Rattle.curves.proofs.WholePower.{tested, below-powers, above-powers}
+use Rattle.curves.proofs.WholePower.{tested, below-powers, above-powers, no-power}
 use Rattle.curves.proofs.power.whole_power.Needs as need
 use Rattle.curves.proofs.power.whole_power.Needs.{else-k-geminus149·by·then-k-geminus149·then-k-le127·else-nearest-i32-to-f32-x, else-k-geminus149·by·then-k-geminus149·else-k-le127, else-k-geminus149·by·else-k-geminus149}
+
+pub returns-then-f32-to-bits-with-nan-ne0 : need.returns-then-f32-to-bits-with-nan-ne0
+returns-then-f32-to-bits-with-nan-ne0 c =
+    rw (no-power (c .args .x) (c .f32-to-bits-with-nan .result) (subst T (sym (c .good .0 .1)) tt) (c .f32-to-bits-with-nan .ensures) (c .if-f32-to-bits-with-nan-ne0 .taken)) refl
 
 pub returns-then-nearest-i32-to-f32-x : need.returns-then-nearest-i32-to-f32-x
 returns-then-nearest-i32-to-f32-x c =

@@ -1,0 +1,4 @@
+pub mod Bits
+pub mod Format
+pub mod Runs
+pub mod Told

@@ -1,0 +1,5 @@
+pub mod Patterns
+pub mod Narrowing
+pub mod Placing
+pub mod Rounding
+pub mod Casting
