@@ -39,9 +39,11 @@ one-more e h n q k =
     let t = k .0 in
     let l : length h < 65535 = short (length h) (n .taken) t q in
     let c = counting-short h (omega arith) in
-    let d = counting-short (e ∷ h) (omega arith) in
-    (omega arith, ap (λ (x : ℕ). x + refusalIn (e .answer)) (k .1 ∙ ap refusals c) ∙ ap refusals (sym d),
-    cap (n .worked) (works h) (workedIn (unpacked (e .bytes)) (e .answer)) (k .2 ∙ ap (λ (g : List Turn). min (works g) 4294967295) c) ∙ ap (λ (g : List Turn). min (works g) 4294967295) (sym d))
+    let d = counting-short (e ∷ h) (omega arith) in (
+      omega arith,
+      ap (λ (x : ℕ). x + refusalIn (e .answer)) (k .1 ∙ ap refusals c) ∙ ap refusals (sym d),
+      cap (n .worked) (works h) (workedIn (unpacked (e .bytes)) (e .answer)) (k .2 ∙ ap (λ (g : List Turn). min (works g) 4294967295) c) ∙ ap (λ (g : List Turn). min (works g) 4294967295) (sym d),
+    )
   where
     short : (l t : ℕ) → t ≡ min l 65535 → (t ≡ 65535 → ⊥) → l < 65535
     short l t e q = go (l - 65534) refl

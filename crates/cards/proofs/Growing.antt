@@ -10,6 +10,7 @@ use Rattle.cards.specs.Bits.{bitAt, fieldAt}
 pub one-more : (bytes : List ℕ) (from k n b : ℕ) → n ≡ fieldAt bytes from k → b ≡ bitAt bytes (from + k) → b < 2 → n < 2 ^ k → (n * 2 + b ≡ fieldAt bytes from (k + 1)) × (n * 2 + b < 2 ^ (k + 1))
 unfolding fieldAt
 one-more bytes from k n b e f l h =
-    let p : 2 ^ suc k ≡ 2 ^ k * 2 = pow-suc 2 k in
-    (ap₂ (λ (x y : ℕ). x + y) (mul-comm n 2 ∙ ap (λ (x : ℕ). 2 * x) e) f ∙ ap (fieldAt bytes from) (sym (add-one k)),
-    subst (λ (x : ℕ). n * 2 + b < 2 ^ x) (sym (add-one k)) (omega (arith, p)))
+    let p : 2 ^ suc k ≡ 2 ^ k * 2 = pow-suc 2 k in (
+      ap₂ (λ (x y : ℕ). x + y) (mul-comm n 2 ∙ ap (λ (x : ℕ). 2 * x) e) f ∙ ap (fieldAt bytes from) (sym (add-one k)),
+      subst (λ (x : ℕ). n * 2 + b < 2 ^ x) (sym (add-one k)) (omega (arith, p)),
+    )

@@ -1,6 +1,5 @@
 // A card: what it says, from six bytes and back.
 ghost use mathlib.Core.Path.{_≡_};
-
 ghost use Prim.Native.Nat.{_<_};
 ghost use lib.ListN.{length};
 ghost use Rattle.std.specs.Options.{Cases as BySome};
@@ -31,8 +30,15 @@ impl Card {
         let peg = field(bytes, 4, 12) as u16;
         let value = field(bytes, 16, 32);
         match operation {
-            0 => Ok(Card::Enter { code: code as u8, peg, value }),
-            1 if code == 0 => Ok(Card::Work { first: peg, count: value }),
+            0 => Ok(Card::Enter {
+                code: code as u8,
+                peg,
+                value,
+            }),
+            1 if code == 0 => Ok(Card::Work {
+                first: peg,
+                count: value,
+            }),
             2 if code == 0 && value == 0 => Ok(Card::Read { peg }),
             3 if code == 0 && value == 0 => Ok(Card::Clear { peg }),
             _ => Err(Fault::UnusedField),

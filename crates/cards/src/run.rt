@@ -31,7 +31,10 @@ fn play<B: ExpfBackend>(card: &[u8], sheet: &mut [Peg], arith: &B) -> Result<Pla
         }
         Card::Work { first, count } => {
             let value = calls::work(sheet, first, count, arith)?;
-            Ok(Played { value, worked: value })
+            Ok(Played {
+                value,
+                worked: value,
+            })
         }
         Card::Read { peg } => {
             let value = calls::read(sheet, peg)?;
@@ -58,7 +61,12 @@ impl OpenRun {
     }
 
     // Plays a card on a sheet: its answer, or why it is refused.
-    pub fn take<B: ExpfBackend>(&mut self, card: &[u8], sheet: &mut [Peg], arith: &B) -> Result<u32, Fault>
+    pub fn take<B: ExpfBackend>(
+        &mut self,
+        card: &[u8],
+        sheet: &mut [Peg],
+        arith: &B,
+    ) -> Result<u32, Fault>
         ensures { λ r. ⌜ Takes (B·ExpfBackend .meaning (now (arith .entry))) (now (card .entry)) (countsOf (now (self .entry))) (now (sheet .entry)) r (now (sheet .exit)) (countsOf (now (self .exit))) ⌝ }
     {
         if self.taken == OpenRun::MOST_CARDS {
@@ -82,8 +90,16 @@ impl OpenRun {
     pub fn close(self) -> ClosedRun
         ensures { λ r. ⌜ closedOf r ≡ countsOf self ⌝ }
     {
-        let OpenRun { taken, refused, worked } = self;
-        ClosedRun { taken, refused, worked }
+        let OpenRun {
+            taken,
+            refused,
+            worked,
+        } = self;
+        ClosedRun {
+            taken,
+            refused,
+            worked,
+        }
     }
 }
 
