@@ -1,9 +1,10 @@
 -- Horner's scheme under the law of an arithmetic: each step stays in the law's range, and has its error.
-use Prim.Native.Nat.{ℕ, _^_, _<_}
+use Prim.Native.Nat.{_^_}
 use lib.Dec.{T, lit≤}
-use lib.Ieee.{Float, binary64, fits}
+use lib.Ieee.{Float, binary32, binary64, fits}
+use lib.Ieee.Fits.{fits-widens}
 use lib.Ieee.Scale.{finite}
-use Rattle.exact.proofs.Rational.{ℚ, _+q_, _*q_, -q_, _-q_}
+use Rattle.exact.proofs.Rational.{ℚ, _+q_, _*q_}
 use Rattle.exact.proofs.Order.{_≤q_}
 use Rattle.exact.proofs.Bound.{ofℕ, Bound, bound-more, bound-mul}
 use Rattle.rounding.specs.Ranges.{Ranged, Permitted}
@@ -11,7 +12,13 @@ use Rattle.rounding.proofs.Fractions.{dy}
 use Rattle.rounding.proofs.Value.{val}
 use Rattle.rounding.proofs.Scaled.{above}
 use Rattle.rounding.proofs.Horner.{Ball, ball-size, Step, step}
-use Rattle.rounding.proofs.Range.{FmaLaw, permitted-fits, ranged-above, ranged-finite}
+use Rattle.rounding.proofs.Multiple.{away-more, mult-away}
+use Rattle.rounding.proofs.Held.{finest}
+use Rattle.rounding.proofs.Range.{FmaLaw, permitted-fits, ranged, ranged-above, ranged-finite}
+
+-- a small f32 lies in the range of the law
+pub f32-range : (x : Float) (B : ℚ) → T (finite x) → T (fits binary32 x) → Bound (val x) B → B ≤q ofℕ (2 ^ 400) → Ranged binary64 400 x
+f32-range x B fx wx b h = ranged binary64 400 x (fits-widens x wx) fx (away-more {k = 149} 400 (lit≤ tt) (mult-away (finest binary32 x fx wx))) (bound-more b h)
 
 -- r is near v, which is within V of 0, and in the range of the law
 pub record Stage (r : Float) (v V e : ℚ) : Type 0 where

@@ -2,21 +2,22 @@
 use mathlib.Core.Path.{_≡_, refl, sym, ap, subst, _∙_}
 use mathlib.Core.Bool.{Bool, true, false, not, cond}
 use mathlib.Core.Logic.{_⊎_, inl, inr}
-use Prim.Native.Nat.{ℕ, zero, suc, _+_, _-_, _*_, _/_, _%_, _^_, _≤_, _<_}
+use Prim.Native.Nat.{ℕ, _+_, _-_, _*_, _/_, _%_, _^_, _≤_, _<_}
 use native.Mathlib.Nat.{eq-zero-or-pos}
 use native.Mathlib.Omega.{arith}
 use lib.Dec.{T, leb, eqb}
 use lib.Bits.{bitAnd}
 use lib.Pow.{pow-pos}
 use lib.IntN.{ℤ}
-use lib.Ieee.{Float, nan, inf, fin, Format, binary32, fits, isNan, ofBits, ofFields, toBits, up, down, size}
+use lib.Ieee.{Float, nan, inf, fin, binary32, fits, isNan, ofBits, ofFields, up, down, size}
 use lib.Ieee.Bits.{ofBits-toBits, toBits-lt}
 use lib.Ieee.Scale.{finite}
 use Rattle.std.proofs.shelf.Bits.{and-mask}
 use Rattle.exact.proofs.Rational.{ℚ, -q_}
 use Rattle.exact.proofs.Order.{nn}
-use Rattle.exact.proofs.Bound.{Bound, bound-self, bound-neg}
-use Rattle.rounding.proofs.Fractions.{nn-frac}
+use Rattle.exact.proofs.Bound.{absq, Bound, bound-self, bound-neg}
+use Rattle.rounding.proofs.Fractions.{nn-frac, frac-neg}
+use Rattle.rounding.proofs.Distance.{abs-nn, abs-frac}
 use Rattle.rounding.proofs.Value.{val}
 use Rattle.rounding.proofs.Patterns.{sized, size-of, pattern-positive, pattern-negative}
 use Rattle.curves.specs.Steps.{pattern, magnitude}
@@ -85,6 +86,15 @@ pub sized-bound : (x : Float) → T (fits binary32 x) → T (finite x) → Bound
 sized-bound x w t = elim (signed-of x w t) [
   | positive l m v ↦ subst (λ (u : ℚ). Bound u (sized (magnitude x))) (sym (v ∙ ap (λ (n : ℕ). sized n) (sym m))) (bound-self nn-size)
   | negative l m v ↦ subst (λ (u : ℚ). Bound u (sized (magnitude x))) (sym v) (bound-neg (bound-self nn-size))
+]
+  where
+    nn-size : T (nn (sized (magnitude x)))
+    nn-size = nn-frac (size-of (magnitude x)) (2 ^ 149) (pow-pos 149)
+
+pub sized-size : (x : Float) → T (fits binary32 x) → T (finite x) → absq (val x) ≡ sized (magnitude x)
+sized-size x w t = elim (signed-of x w t) [
+  | positive l m v ↦ ap absq (v ∙ ap (λ (n : ℕ). sized n) (sym m)) ∙ abs-nn (sized (magnitude x)) nn-size
+  | negative l m v ↦ ap absq (v ∙ frac-neg (size-of (magnitude x)) (2 ^ 149) (pow-pos 149)) ∙ abs-frac true (size-of (magnitude x)) (2 ^ 149) (pow-pos 149)
 ]
   where
     nn-size : T (nn (sized (magnitude x)))
