@@ -26,8 +26,8 @@ use Rattle.rounding.proofs.Horner.{ball-size, Step}
 use Rattle.rounding.proofs.Range.{FmaLaw}
 use Rattle.rounding.proofs.Scaled.{above}
 use Rattle.curves.specs.Steps.{double, poly6}
-use Rattle.accuracy.proofs.Horner.{Stage, Numbers, horner}
-use Rattle.accuracy.proofs.NearZero.{x-range, last-low, zero-near, square-step, square-off, square-size, square-exact, square-range}
+use Rattle.accuracy.proofs.Horner.{f32-range, Stage, Numbers, horner}
+use Rattle.accuracy.proofs.NearZero.{wide, last-low, zero-near, square-step, square-off, square-size, square-exact, square-range}
 use Rattle.accuracy.proofs.Outcome.{Near, nearer, close, Wide}
 use Rattle.accuracy.proofs.PowerProduct.{unit, start}
 use Rattle.accuracy.proofs.PowerTable.{lift}
@@ -94,13 +94,13 @@ module _ (fma : Float → Float → Float → Float) (law : FmaLaw binary64 400 
   sq = mul binary64 x x
 
   pub stage₀ : Stage u₀ (val x *q val h₅ +q val h₄) (dy 1 8) (dy 1 55)
-  stage₀ = horner fma law x h₅ h₄ (val h₅) (dy 1 5) (dy 1 12) (dy 1 60) (dy 1 9) (dy 1 8) (dy 1 55) (x-range x fx wx bx) bx (ranges .4) (sizes .4) (start h₅ (dy 1 12) (ranges .5) (sizes .5)) (first-nums .0)
+  stage₀ = horner fma law x h₅ h₄ (val h₅) (dy 1 5) (dy 1 12) (dy 1 60) (dy 1 9) (dy 1 8) (dy 1 55) (f32-range x (dy 1 5) fx wx bx wide) bx (ranges .4) (sizes .4) (start h₅ (dy 1 12) (ranges .5) (sizes .5)) (first-nums .0)
 
   narrow₁ : Stage u₁ (val x *q val h₃ +q val h₂) (dy 1 3) (dy 1 55)
-  narrow₁ = horner fma law x h₃ h₂ (val h₃) (dy 1 5) (dy 1 6) (dy 1 60) (dy 1 4) (dy 1 3) (dy 1 55) (x-range x fx wx bx) bx (ranges .2) (sizes .2) (start h₃ (dy 1 6) (ranges .3) (sizes .3)) (first-nums .1)
+  narrow₁ = horner fma law x h₃ h₂ (val h₃) (dy 1 5) (dy 1 6) (dy 1 60) (dy 1 4) (dy 1 3) (dy 1 55) (f32-range x (dy 1 5) fx wx bx wide) bx (ranges .2) (sizes .2) (start h₃ (dy 1 6) (ranges .3) (sizes .3)) (first-nums .1)
 
   narrow₂ : Stage u₂ (val x *q val h₁ +q val h₀) (dy 25 5) (dy 1 52)
-  narrow₂ = horner fma law x h₁ h₀ (val h₁) (dy 1 5) (dy 1 2) (dy 1 60) (dy 3 2) (dy 25 5) (dy 1 52) (x-range x fx wx bx) bx (ranges .0) (sizes .0) (start h₁ (dy 1 2) (ranges .1) (sizes .1)) (first-nums .2)
+  narrow₂ = horner fma law x h₁ h₀ (val h₁) (dy 1 5) (dy 1 2) (dy 1 60) (dy 3 2) (dy 25 5) (dy 1 52) (f32-range x (dy 1 5) fx wx bx wide) bx (ranges .0) (sizes .0) (start h₁ (dy 1 2) (ranges .1) (sizes .1)) (first-nums .2)
 
   -- with room for the error
   pub stage₁ : Stage u₁ (val x *q val h₃ +q val h₂) (dy 1 2) (dy 1 55)

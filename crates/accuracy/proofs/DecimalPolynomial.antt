@@ -24,8 +24,8 @@ use Rattle.rounding.proofs.Fractions.{dy}
 use Rattle.rounding.proofs.Value.{val}
 use Rattle.rounding.proofs.Range.{FmaLaw}
 use Rattle.curves.specs.Steps.{double, poly7}
-use Rattle.accuracy.proofs.Horner.{Stage, Numbers, horner}
-use Rattle.accuracy.proofs.NearZero.{x-range, last-low, zero-near}
+use Rattle.accuracy.proofs.Horner.{f32-range, Stage, Numbers, horner}
+use Rattle.accuracy.proofs.NearZero.{wide, last-low, zero-near}
 use Rattle.accuracy.proofs.Outcome.{Near, nearer, close, Wide}
 use Rattle.accuracy.proofs.PowerProduct.{unit, start}
 use Rattle.accuracy.proofs.PowerTable.{lift}
@@ -80,7 +80,7 @@ seven t = t *q (t *q (t *q (t *q (t *q (t *q val s₆ +q val s₅) +q val s₄) 
 
 module _ (fma : Float → Float → Float → Float) (law : FmaLaw binary64 400 fma) (x : Float) (fx : T (finite x)) (wx : T (fits binary32 x)) (bx : Bound (val x) (dy 1 5)) where
   step : (acc a : Float) (v e : ℚ) → Ranged binary64 400 a → Bound (val a) (dy 11 2) → Stage acc v (dy 3 0) e → Numbers X (dy 3 0) e (dy 11 2) (dy 3 0) (dy 1 50) a → Stage (fma x acc a) (val x *q v +q val a) (dy 3 0) (dy 1 50)
-  step acc a v e r b s c = horner fma law x acc a v X (dy 3 0) e (dy 11 2) (dy 3 0) (dy 1 50) (x-range x fx wx bx) bx r b s c
+  step acc a v e r b s c = horner fma law x acc a v X (dy 3 0) e (dy 11 2) (dy 3 0) (dy 1 50) (f32-range x (dy 1 5) fx wx bx wide) bx r b s c
 
   pub stage₁ : Stage (fma x s₆ s₅) (val x *q val s₆ +q val s₅) (dy 3 0) (dy 1 50)
   stage₁ = step s₆ s₅ (val s₆) (dy 1 60) (ranges .5) (sizes .5) (start s₆ (dy 3 0) (ranges .6) (sizes .6)) (steps .0)

@@ -5,7 +5,7 @@ use Prim.Native.Nat.{ℕ, _+_, _-_, _*_, _^_, _≤_}
 use native.Mathlib.Nat.{le-trans}
 use lib.Dec.{T, lit≤}
 use lib.Ieee.{Float, binary32, binary64, mul, ofBits, fits}
-use lib.Ieee.Fits.{mul-fits, fits-widens}
+use lib.Ieee.Fits.{mul-fits}
 use lib.Ieee.Scale.{finite}
 use Rattle.exact.specs.Logarithm.{Base}
 use Rattle.exact.specs.Laws.{of-base}
@@ -32,18 +32,15 @@ use Rattle.rounding.proofs.Held.{finest}
 use Rattle.rounding.proofs.Horner.{ball-size}
 use Rattle.rounding.proofs.Range.{FmaLaw, ranged, ranged-finite}
 use Rattle.rounding.proofs.Scaled.{above}
-use Rattle.accuracy.proofs.Horner.{Stage, Numbers, horner}
+use Rattle.accuracy.proofs.Horner.{f32-range, Stage, Numbers, horner}
 use Rattle.accuracy.proofs.Outcome.{Near, near-positive}
 use Rattle.accuracy.proofs.PowerLimits.{sum-is}
 use Rattle.accuracy.proofs.PowerProduct.{unit, unit-range}
 
--- ---- x
-x-nums : dy 1 5 ≤q ofℕ (2 ^ 400)
+-- ---- x is at most 1 / 32
+pub wide : dy 1 5 ≤q ofℕ (2 ^ 400)
 unfolding nn _-q_ _+q_ -q_ ofℕ ofℤ
-x-nums = record { le = tt }
-
-pub x-range : (x : Float) → T (finite x) → T (fits binary32 x) → Bound (val x) (dy 1 5) → Ranged binary64 400 x
-x-range x fx wx bx = ranged binary64 400 x (fits-widens x wx) fx (away-more {k = 149} 400 (lit≤ tt) (mult-away (finest binary32 x fx wx))) (bound-more bx x-nums)
+wide = record { le = tt }
 
 -- ---- the last step
 last-nums : ((dy 3 0 +q dy 1 50) *q dy 1 5 ≤q ofℕ (2 ^ 100)) × ((dy 3 0 +q dy 1 50) *q dy 1 5 +q dy 1 0 +q slip binary64 ((dy 3 0 +q dy 1 50) *q dy 1 5) ≤q ofℕ (2 ^ 100))
@@ -60,7 +57,7 @@ module _ (fma : Float → Float → Float → Float) (law : FmaLaw binary64 400 
   last-near =
       let Q = (dy 3 0 +q dy 1 50) *q dy 1 5 in
       let q : Bound (val p *q val x) Q = bound-mul (ball-size (sp .ball)) bx in
-      let w = fma-err binary64 p x unit z Q (Q +q dy 1 0) 100 (sp .ball .is-finite) fx (ranged-finite binary64 400 unit unit-range) (law p x unit (sp .range) (x-range x fx wx bx) unit-range) q (bound-add q (last-nums .3)) (last-nums .0) (last-nums .1) (lit≤ tt) in (
+      let w = fma-err binary64 p x unit z Q (Q +q dy 1 0) 100 (sp .ball .is-finite) fx (ranged-finite binary64 400 unit unit-range) (law p x unit (sp .range) (f32-range x (dy 1 5) fx wx bx wide) unit-range) q (bound-add q (last-nums .3)) (last-nums .0) (last-nums .1) (lit≤ tt) in (
         w .is-finite,
         bound-more (subst (λ (u : ℚ). Bound u (slip₂ binary64 Q (Q +q dy 1 0) +q dy 1 50 *q dy 1 5))
             (qring (x₀ ⊖ (x₁ ⊗ x₂ ⊕ x₃) ⊕ (x₁ ⊖ x₄) ⊗ x₂) (x₀ ⊖ (x₄ ⊗ x₂ ⊕ x₃)) refl (val z ∷ val p ∷ val x ∷ val unit ∷ P ∷ []))

@@ -25,7 +25,8 @@ use Rattle.rounding.proofs.Scaled.{part, part₂, above, mul-part, fma-part}
 use Rattle.curves.specs.Steps.{double, timesPower}
 use Rattle.curves.proofs.Decimal.{Ready, ready-range}
 use Rattle.curves.proofs.Law.{ranged-in}
-use Rattle.accuracy.specs.PowerArguments.{InRange, Handed, ProductArguments}
+use Rattle.accuracy.specs.Arguments.{Asked}
+use Rattle.accuracy.specs.PowerArguments.{ProductArguments}
 use Rattle.accuracy.proofs.Horner.{Stage, horner}
 
 -- ---- five coefficients, and 1
@@ -36,12 +37,9 @@ pub unit-range : Ranged binary64 400 unit
 unfolding ofBits fits
 unit-range = (tt, inr (lit≤ tt, lit≤ tt))
 
--- a range of the law
-in-range : {x : Float} → Ranged binary64 400 x → InRange x
-in-range {x} r = let w = ranged-in binary64 399 x r in record { fit = w .0; range = w .1 }
-
-pub handed : {x y z : Float} → Ranged binary64 400 x → Ranged binary64 400 y → Ranged binary64 400 z → Handed x y z
-handed a b c = record { first = in-range a; second = in-range b; third = in-range c }
+-- a multiply-add of numbers in the range of the law is asked for within it
+pub asked : {x y z : Float} → Ranged binary64 400 x → Ranged binary64 400 y → Ranged binary64 400 z → Asked binary64 400 x y z
+asked {x} {y} {z} a b c = record { of-x = ranged-in binary64 399 x a; of-y = ranged-in binary64 399 y b; of-z = ranged-in binary64 399 z c }
 
 -- what is asked of the coefficients: their range, their sizes, and that two of them are not small
 pub record Coefficients (k₀ k₁ k₂ k₃ k₄ : Float) : Type 0 where
@@ -298,9 +296,9 @@ module _ (fma : Float → Float → Float → Float) (law : FmaLaw binary64 400 
   -- ---- every argument of the steps
   pub product-arguments : ProductArguments fma lo mh k₀ k₁ k₂ k₃ k₄
   product-arguments = record {
-    constant = handed lo-range (c .in₀) unit-range;
-    second = handed lo-range (c .in₂) (c .in₁);
-    fourth = handed lo-range (c .in₄) (c .in₃);
-    inner = handed sq-range (stage₂ .range) (stage₁ .range);
-    last = handed (stage-p .range) q₁-range q₀-range;
+    constant = asked lo-range (c .in₀) unit-range;
+    second = asked lo-range (c .in₂) (c .in₁);
+    fourth = asked lo-range (c .in₄) (c .in₃);
+    inner = asked sq-range (stage₂ .range) (stage₁ .range);
+    last = asked (stage-p .range) q₁-range q₀-range;
   }
