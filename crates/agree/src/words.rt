@@ -1,5 +1,6 @@
 // Commands and answers in words.
 use sheet::fault::Fault;
+use sheet::function::Function;
 use sheet::replay::Command;
 use std::fmt;
 use std::num::f32_from_bits_with_nan;
@@ -9,12 +10,12 @@ use std::num::f32_from_bits_with_nan;
 pub struct Said(pub Command);
 
 fn function_word(code: u8) -> &'static str {
-    match code {
-        0 => "exp",
-        1 => "exp2",
-        2 => "exp10",
-        3 => "expm1",
-        _ => "no function",
+    match Function::of_code(code) {
+        Ok(Function::Exp) => "exp",
+        Ok(Function::Exp2) => "exp2",
+        Ok(Function::Exp10) => "exp10",
+        Ok(Function::Expm1) => "expm1",
+        Err(_) => "no function",
     }
 }
 
