@@ -86,19 +86,19 @@ pub fn round_f64(x: f64) -> f64
     }
 }
 
-// The whole part of x, and where that is no i32 the nearest one; 0 for a NaN.
+// 2^52 + 2^51
+const SHIFT: f64 = 6755399441055744.0;
+
+// The whole part of x, and where that is no i32 the nearest one; 0 for a NaN. Where x is whole, the last 32 digits of the sum are its own.
 pub fn to_i32(x: f64) -> i32
     ensures { λ r. ⌜ r ≡ toSigned 31 x ⌝ }
 {
-    let b = f64_to_bits_with_nan(x);
-    let a = b % 0x8000_0000_0000_0000;
-    if a < 0x41e0_0000_0000_0000 {
-        // x is m * 2^-s
-        let m = a % 0x10_0000_0000_0000 + 0x10_0000_0000_0000;
-        let s = places_f64(a);
-        let n = (m >> s) as i32;
-        if b < 0x8000_0000_0000_0000 { n } else { -n }
-    } else {
-        saturating_f64_to_i32(x)
+    let y = x + SHIFT;
+    if y - SHIFT == x {
+        let p = f64_to_bits_with_nan(y);
+        if 0x4337_ffff_8000_0000 < p && p < 0x4338_0000_8000_0000 {
+            return (p as i64 - 0x4338_0000_0000_0000) as i32;
+        }
     }
+    saturating_f64_to_i32(x)
 }
