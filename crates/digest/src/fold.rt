@@ -64,7 +64,7 @@ impl Every {
 }
 
 // The digest of the pair's answers in a block.
-pub fn block_digest(pair: Pair, every: Every, number: u32) -> u64
+pub(crate) fn block_digest(pair: Pair, every: Every, number: u32) -> u64
     requires { ⌜ number < 256 ⌝ }
     ensures { λ r. ⌜ r ≡ block (answer (curveOf (pair .curve) (arithmeticOf (pair .arithmetic)))) (every .step) (16777215 / every .step + 1) (number * 2 ^ 24) ⌝ }
 {
