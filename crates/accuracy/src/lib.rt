@@ -2,6 +2,8 @@
 //!
 //! What is promised of a figure stands in specs/. Each function below states in its contract one theorem about a curve's steps.
 
+#![tactic(auto)]
+
 pub mod functions;
 pub mod powers;
 

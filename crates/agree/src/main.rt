@@ -1,4 +1,7 @@
 // Carries out one list of commands on two sheets: a till that fuses, and a cabinet that rounds twice.
+
+#![tactic(auto)]
+
 mod list;
 mod words;
 

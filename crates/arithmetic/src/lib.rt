@@ -1,4 +1,7 @@
 // An arithmetic: fused or two-step multiply-add and rounding to a whole number, with its law.
+
+#![tactic(auto)]
+
 ghost use Rattle.std.specs.Prelude.{◌≡◌};
 ghost use Rattle.arithmetic.specs.Arithmetic.{Arithmetic, Lawful, MulAdd, Nearest, TwoOperations, FusedInside, generic, fusing, fused_within, two_step, within};
 ghost use Rattle.rounding.specs.Operations.{TiesToAway};

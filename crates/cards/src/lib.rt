@@ -1,4 +1,7 @@
 // Cards, replies and the run.
+
+#![tactic(auto)]
+
 mod bits;
 pub mod card;
 pub mod counts;

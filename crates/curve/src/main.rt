@@ -1,4 +1,7 @@
 // Answers each line `CURVE ARITHMETIC X` of standard input with the pattern and the decimal of the curve's value.
+
+#![tactic(auto)]
+
 mod line;
 
 use anyhow::anyhow;

@@ -1,4 +1,7 @@
 // The exponential curves on f32, each under a given arithmetic.
+
+#![tactic(auto)]
+
 pub mod exp10f;
 pub mod exp2f;
 pub mod expf;

@@ -1,4 +1,7 @@
 // Digests of the curves' answers, to see whether another version still answers every pattern alike.
+
+#![tactic(auto)]
+
 mod fold;
 mod names;
 mod request;

@@ -1,4 +1,7 @@
 // Tests of the sheet's calls at the edges of what they refuse.
+
+#![tactic(auto)]
+
 #[cfg(test)]
 mod tests {
     use arithmetic::GenericExpfBackend;

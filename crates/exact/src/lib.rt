@@ -2,6 +2,8 @@
 //!
 //! The definitions stand in specs/. Each function below states in its contract one theorem about them.
 
+#![tactic(auto)]
+
 ghost use Rattle.exact.specs.Laws.{Agree, Ordered, Sides, Starts, Tangent, Multiplies};
 ghost use Rattle.exact.specs.Laws.{Tail, Product, Vanishes, Grows, Inverse, Decides, Nested, Powers};
 

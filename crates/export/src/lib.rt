@@ -1,4 +1,7 @@
 // The curves as C functions over bit patterns, for a static library. Nothing is asked of the caller.
+
+#![tactic(auto)]
+
 ghost use Rattle.std.specs.Prelude.{◌≡◌, ◌<◌, ◌≤◌};
 ghost use Rattle.arithmetic.specs.Arithmetic.{generic, fusing};
 ghost use Rattle.curves.specs.Exp.{exp_value};

@@ -1,4 +1,7 @@
 // Faster forms of slow steps: each gives what the plain form gives, for every argument.
+
+#![tactic(auto)]
+
 ghost use Rattle.std.specs.Prelude.{◌≡◌, ◌<◌, ◌≤◌};
 ghost use Rattle.std.specs.Float.Ieee.{to_signed};
 ghost use Rattle.std.specs.Float.{round_to_format, float_round, binary32, binary64};

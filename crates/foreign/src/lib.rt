@@ -1,4 +1,7 @@
 // A third arithmetic, for tests: the law admits one that is not ours.
+
+#![tactic(auto)]
+
 ghost use Rattle.std.specs.Prelude.{◌≡◌};
 ghost use Rattle.std.specs.Float.{binary32, binary64};
 ghost use Rattle.foreign.specs.Choosing.{choosing, plain_zero};

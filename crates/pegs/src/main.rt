@@ -1,4 +1,7 @@
 // Plays cards of six bytes from standard input on a sheet of 128 pegs, in two-step arithmetic, and writes each reply and then the three counts.
+
+#![tactic(auto)]
+
 use arithmetic::GenericExpfBackend;
 use cards::counts::OpenRun;
 use cards::reply::reply;

@@ -1,4 +1,7 @@
 // A question in words: a curve, an arithmetic and an input, as `exp two-step 0x3f800000` or `exp2 fused 1.5`.
+
+#![tactic(auto)]
+
 ghost use Rattle.std.specs.Prelude.{◌≡◌};
 ghost use Rattle.query.specs.Meaning.{curve_of, arithmetic_of, word_of_curve, word_of_arithmetic, Spelt};
 

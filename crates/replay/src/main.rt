@@ -1,4 +1,7 @@
 // Works our answer for each line of a list of the crate's answers, and says where they differ.
+
+#![tactic(auto)]
+
 mod judge;
 mod line;
 mod tally;

@@ -1,5 +1,8 @@
 // IEEE 754-2019 said over the values of floats: what is proved of rounding, of the operations, and of their errors.
 // Each function's contract is one theorem; the statements stand in specs/.
+
+#![tactic(auto)]
+
 ghost use Rattle.rounding.specs.Units.{ExponentBounds, UnitExamples};
 ghost use Rattle.rounding.specs.Nearest.{Limits};
 ghost use Rattle.rounding.specs.Operations.{RoundNearest, Products, Sums, MultiplyAdds, Conversions, WholeNumbers};

@@ -21,5 +21,5 @@ float-from-bits-result c =
 
 pub returns-then-a-lt1258291200 : goal.returns-then-a-lt1258291200
 returns-then-a-lt1258291200 c =
-    by_pattern binary32 c.f32-to-bits-with-nan-b.result c.places-f32-s.result c.if-a-lt1258291200.true c.places-f32-s.ensures.places
-    c.args.x (subst T (sym c.well-formed.0.1) tt) c.f32-to-bits-with-nan-b.ensures c.f32-to-bits-with-nan-b.type-inv
+    by_pattern binary32 c.f32_to_bits_with_nan-b.result c.places_f32-s.result c.if-a-lt1258291200.true c.places_f32-s.ensures.places
+    c.args.x (subst T (sym c.good.0.1) tt) c.f32_to_bits_with_nan-b.ensures c.f32_to_bits_with_nan-b.type-inv

@@ -21,5 +21,5 @@ float-from-bits-result c =
 
 pub returns-then-a-lt4841369599423283200 : goal.returns-then-a-lt4841369599423283200
 returns-then-a-lt4841369599423283200 c =
-    by_pattern binary64 c.f64-to-bits-with-nan-b.result c.places-f64-s.result c.if-a-lt4841369599423283200.true c.places-f64-s.ensures.places
-    c.args.x (subst T (sym c.well-formed.0.1) tt) c.f64-to-bits-with-nan-b.ensures c.f64-to-bits-with-nan-b.type-inv
+    by_pattern binary64 c.f64_to_bits_with_nan-b.result c.places_f64-s.result c.if-a-lt4841369599423283200.true c.places_f64-s.ensures.places
+    c.args.x (subst T (sym c.good.0.1) tt) c.f64_to_bits_with_nan-b.ensures c.f64_to_bits_with_nan-b.type-inv
