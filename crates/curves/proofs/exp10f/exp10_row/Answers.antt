@@ -4,4 +4,4 @@ use Rattle.curves.proofs.exp10f.exp10_row.Goals as goal
 
 pub returns : goal.returns
 returns c =
-    scaled_is table_exp2_mid 32 c.args.k c.exp-2-mid.result c.row-of-32.result c.add-power.result c.ranges.k c.add-power.ensures c.exp-2-mid.ensures.value c.row-of-32.ensures.value
+    scaled_is table_exp2_mid 32 c.args.k c.exp_2_mid.result c.row_of_32.result c.add_power.result c.ranges.k c.add_power.ensures c.exp_2_mid.ensures.value c.row_of_32.ensures.value

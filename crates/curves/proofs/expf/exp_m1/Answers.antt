@@ -8,9 +8,9 @@ use Rattle.curves.proofs.expf.exp_m1.Goals as goal
 number : ℕ → ℕ → Bool
 number k b = not (nan_bits binary64 b)
 
-pub float-from-bits-result : goal.float-from-bits-result
+pub float_from_bits-result : goal.float_from_bits-result
 unfolding table_exp_m1 number nan_bits
-float-from-bits-result c = at number table_exp_m1 tt c.args.i c.requires
+float_from_bits-result c = at number table_exp_m1 tt c.args.i c.requires
 
 pub returns : goal.returns
 unfolding table_exp_m1

@@ -10,5 +10,5 @@ rows-whole-requires g c =
     let f : T (fits binary32 c.args.x) = search rules in
     let a = g.B.ExpfBackend.meaning c.args.arith.now in
     let w = g.met.B.ExpfBackend.lawful c.args.arith.now in
-    let e : c.to-i32.result ≡ k a c.args.x = cc in
-    rw (to_z-of_z w32 c.to-i32.result (record { sfits = c.to-i32.type-inv }), e) (exp_splits_lem a w c.args.x f c.requires).1
+    let e : c.to_i32.result ≡ k a c.args.x = cc in
+    rw (to_z-of_z w32 c.to_i32.result (record { sfits = c.to_i32.type_inv }), e) (exp_splits_lem a w c.args.x f c.requires).1

@@ -9,4 +9,4 @@ returns c =
     let h : shifted c.args.k < 2 ^ 31 = omega arith in
     let w = whole_is c.args.k (shifted c.args.k) c.ranges.k (sym c.requires.moved) h in
     let r = rest_is c.args.k (shifted c.args.k) c.ranges.k (sym c.requires.moved) h in
-    record { whole = w; rest = r; whole-bound = omega (arith, w, l); rest-bound = omega (arith, r) }
+    record { whole = w; rest = r; whole_bound = omega (arith, w, l); rest_bound = omega (arith, r) }
