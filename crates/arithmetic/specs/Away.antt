@@ -1,17 +1,14 @@
 -- Rounding to the nearest whole number, halves away from zero, keeps the law of an arithmetic.
-use Rattle.std.specs.Prelude.{◌≡◌, ℕ, zero, suc, ◌+◌, ◌-◌, ◌*◌, ◌/◌, ◌%◌, ◌^◌, ◌<◌, ◌≤◌, Bool, true, false, T, ◌⊎◌, ℤ, pos, negsuc, ◌*ℤ◌, nat_abs, ◌≤ℤ◌, refl, Float}
-use Rattle.std.proofs.Common.{sym, ap, subst, ◌∙◌, inl, inr, div-lt_iff_lt-mul, mod-lt, le_trans, zero-lt-suc, arith, ltb→lt, lit≤, pow_mono}
-use Rattle.std.proofs.Math.Nat.{div-add-mod}
-use Rattle.std.specs.Float.Ieee.{prec, up, down, fits, round, units, odd, size, lt}
+use Rattle.std.specs.Prelude.{◌≡◌, ℕ, ◌+◌, ◌*◌, ◌^◌, ◌<◌, ◌≤◌, Bool, true, false, T, ℤ, pos, ◌*ℤ◌, ◌≤ℤ◌, refl, Float}
+use Rattle.std.proofs.Common.{sym, ap, subst, ◌∙◌, div-lt_iff_lt-mul, le_trans, zero-lt-suc, arith, ltb→lt, lit≤}
+use Rattle.std.specs.Float.Ieee.{prec, up, down, round, units, odd, size, lt}
 use Rattle.std.specs.Float.Ieee.Back.{round_whole}
-use Rattle.std.specs.Float.Ieee.Exact.{HasValue}
 use Rattle.std.specs.Float.Ieee.Fits.{down_pos, round-fits}
 use Rattle.std.proofs.lemmas.Int.{ints}
-use Rattle.std.specs.Float.{float_is_finite, float_round, round_with, float_with_sign, nan, inf, fin, Format, binary32, binary64}
-use Rattle.exact.specs.Fraction.{integer, Same}
+use Rattle.std.specs.Float.{float_round, round_with, float_with_sign, nan, inf, fin, Format, binary32, binary64}
 use Rattle.rounding.specs.Values.{signed, value}
 use Rattle.rounding.specs.Whole.{NearestAway}
-use Rattle.arithmetic.specs.Arithmetic.{RoundsAway, Nearest, small, minus_zero, minus_half}
+use Rattle.arithmetic.specs.Arithmetic.{RoundsAway, Nearest, minus_zero, minus_half}
 use Rattle.arithmetic.specs.Signs.{dist, signed_size, gap_over}
 use Rattle.arithmetic.specs.Unrounded.{value_over, value_finite}
 use Rattle.arithmetic.specs.Whole.{halves, twice_pos, halves_split, halves_near}

@@ -1,5 +1,5 @@
 -- Both of our arithmetics are lawful.
-use Rattle.std.specs.Prelude.{◌≡◌, ℕ, Bool, true, false, cond, ◌&&◌, T, ◌⊎◌, refl, Float}
+use Rattle.std.specs.Prelude.{ℕ, Bool, true, false, cond, ◌&&◌, T, refl, Float}
 use Rattle.std.proofs.Common.{inl, inr}
 use Rattle.std.specs.Float.{float_mul_add, Format, binary32, binary64}
 use Rattle.arithmetic.specs.Arithmetic.{Lawful, MulAdd, OneOrTwo, two_step, fused_within, within, generic, fusing}

@@ -1,8 +1,8 @@
 -- A multiply-add whose product is exact gives one and the same result, rounded once or twice; and where that sum is a value of the format, it is not rounded at all.
-use Rattle.std.specs.Prelude.{◌≡◌, ℕ, zero, suc, ◌+◌, ◌-◌, ◌*◌, ◌^◌, ◌<◌, ◌≤◌, Bool, true, false, cond, not, ◌&&◌, T, ◌⊎◌, ℤ, pos, negsuc, ◌+ℤ◌, ◌*ℤ◌, neg_ℤ, nat_lt, unsigned_abs, refl, Float}
+use Rattle.std.specs.Prelude.{◌≡◌, ℕ, suc, ◌+◌, ◌-◌, ◌*◌, ◌^◌, ◌<◌, ◌≤◌, Bool, true, false, cond, not, ◌&&◌, T, ℤ, pos, ◌+ℤ◌, ◌*ℤ◌, neg_ℤ, nat_lt, unsigned_abs, refl, Float}
 use Rattle.std.proofs.Common.{sym, ap, ap₂, subst, ◌∙◌, inl, inr, mul-pos, mul_comm, mul_assoc, mul-lt-mul_of_pos_right, lt_of_mul-lt-mul_right, arith, ltb→lt, lt→ltb, nltb→le, pow_pos}
 use Rattle.std.specs.Bool.{beq}
-use Rattle.std.proofs.Math.Nat.{mul-sub, eq_of_mul-eq-mul_right}
+use Rattle.std.proofs.Math.Nat.{mul-sub}
 use Rattle.std.specs.Float.Ieee.{prec, emax, low, up, down, unlike, round, sum, add, mul}
 use Rattle.std.specs.Float.Ieee.Exact.{HasValue, round_exact}
 use Rattle.std.specs.Float.Ieee.Fits.{down_pos}

@@ -1,9 +1,9 @@
 -- The nearest whole number, halves away from zero: it is the same for equal fractions, and there is only one.
-use Rattle.std.specs.Prelude.{◌≡◌, ℕ, zero, suc, ◌+◌, ◌-◌, ◌*◌, ◌/◌, ◌%◌, ◌<◌, ◌≤◌, Bool, true, false, not, ◌⊎◌, List, [], ◌∷◌, ℤ, pos, negsuc, ◌+ℤ◌, ◌*ℤ◌, neg_ℤ, ◌≤ℤ◌, unsigned_abs, refl}
-use Rattle.std.proofs.Common.{sym, ap, ap₂, subst, ◌∙◌, inl, inr, le_of_mul-le-mul_right, mul-le-mul_right, le-div_iff_mul-le, div-lt_iff_lt-mul, mod-lt, arith}
+use Rattle.std.specs.Prelude.{◌≡◌, ℕ, suc, ◌+◌, ◌*◌, ◌/◌, ◌%◌, ◌<◌, ◌≤◌, Bool, true, false, not, [], ◌∷◌, ℤ, pos, negsuc, ◌+ℤ◌, ◌*ℤ◌, neg_ℤ, unsigned_abs, refl}
+use Rattle.std.proofs.Common.{sym, ap, subst, ◌∙◌, inl, inr, le_of_mul-le-mul_right, mul-le-mul_right, le-div_iff_mul-le, div-lt_iff_lt-mul, mod-lt, arith}
 use Rattle.std.proofs.Math.Nat.{eq_of_mul-eq-mul_right, div-add-mod}
 use Rattle.std.proofs.lemmas.Int.{ints}
-use Rattle.exact.specs.Fraction.{Fraction, Same, integer, absolute, apart, ◌≼◌}
+use Rattle.exact.specs.Fraction.{Fraction, Same, integer, absolute, ◌≼◌}
 use Rattle.exact.proofs.Ring.{con, ◌⊕◌, ◌⊗◌, ⊝, norm}
 use Rattle.exact.proofs.Integer.{zring, x₀, x₁, x₂, x₃}
 use Rattle.rounding.specs.Values.{signed}

@@ -1,17 +1,15 @@
 -- The split of exp2: every x that reaches the table is split exactly, in f64.
-use Rattle.std.proofs.Common.{◌≡◌, ℕ, zero, suc, ◌+◌, ◌-◌, ◌*◌, ◌/◌, ◌^◌, ◌<◌, ◌≤◌, Bool, true, false, cond, not, T, ◌⊎◌, ℤ, pos, negsuc, neg_ℤ, ◌≤ℤ◌, sym, refl, ap, ◌∙◌, subst, inl, inr, ⊎_elim, le_trans, mul-le-mul_right, mul_assoc, mul-le-mul_left, mul-lt-mul_of_pos_right, le_of_mul-le-mul_right, arith, lit≤, pow_pos, pow_mono, pow-add}
+use Rattle.std.proofs.Common.{◌≡◌, ℕ, zero, suc, ◌+◌, ◌*◌, ◌/◌, ◌^◌, ◌<◌, ◌≤◌, Bool, true, false, cond, T, ◌⊎◌, ℤ, sym, refl, ap, ◌∙◌, subst, inl, inr, ⊎_elim, le_trans, mul-le-mul_right, mul_assoc, mul-le-mul_left, mul-lt-mul_of_pos_right, le_of_mul-le-mul_right, arith, lit≤, pow_pos, pow_mono, pow-add}
 use native.Mathlib.Nat.{eq_of_mul-eq-mul_right}
-use lib.Signed.{shr_z}
 use lib.Ieee.{Float, nan, inf, fin, binary32, binary64, up, down, fits, mul, neg, of_bits, to_bits, is_nan, lt, le, eq}
 use lib.Ieee.Fits.{down_pos, fits_widens}
 use borrow.Author.Differences.{ints}
 use Rattle.std.specs.Float.{float_with_sign}
 use Rattle.rounding.specs.Values.{signed}
 use Rattle.arithmetic.specs.Arithmetic.{Arithmetic, Lawful, Nearest, RoundsAway, OneOrTwo, within}
-use Rattle.arithmetic.specs.Unrounded.{Holds}
-use Rattle.arithmetic.proofs.Digits.{Units, units, within_range}
+use Rattle.arithmetic.proofs.Digits.{units, within_range}
 use Rattle.arithmetic.specs.Whole.{halves}
-use Rattle.curves.specs.Steps.{pattern, magnitude, double}
+use Rattle.curves.specs.Steps.{double}
 use Rattle.curves.specs.Exp2.{kd, k, lo, Exp2Reaches}
 use Rattle.curves.specs.Split.{Splits, InPowers, Exp2Splits}
 use Rattle.curves.proofs.Reduction.{Input, scaled, scaled_small, rounded, k_is, k_below, lo_is_turned, left_over, splits, step}

@@ -1,5 +1,5 @@
 -- exp10's reduction: k is nearest to the rounded product, the first step is exact, the second within 2 ^ -60; lo is small and a multiple of 2 ^ -100; hi is a row with a power of two.
-use Rattle.std.proofs.Common.{◌≡◌, ℕ, zero, suc, ◌+◌, ◌-◌, ◌*◌, ◌/◌, ◌^◌, ◌<◌, ◌≤◌, Bool, true, false, cond, not, T, ◌⊎◌, [], ◌∷◌, ℤ, pos, negsuc, neg_ℤ, nat_abs, ◌≤ℤ◌, sym, refl, ap, ◌∙◌, subst, ap₂, inl, inr, ⊎_elim, le_trans, zero-lt-suc, mul-pos, arith, lit≤, pow_pos}
+use Rattle.std.proofs.Common.{◌≡◌, ℕ, zero, suc, ◌+◌, ◌*◌, ◌/◌, ◌^◌, ◌<◌, ◌≤◌, Bool, true, false, cond, not, T, ◌⊎◌, [], ◌∷◌, ℤ, pos, negsuc, neg_ℤ, nat_abs, ◌≤ℤ◌, sym, refl, ap, ◌∙◌, subst, ap₂, inl, inr, ⊎_elim, le_trans, zero-lt-suc, mul-pos, arith, lit≤, pow_pos}
 use lib.Signed.{shr_z}
 use lib.Ieee.{Float, nan, inf, fin, Format, binary32, binary64, low, up, down, unlike, round, sum, mul, of_bits, to_bits, is_nan, fits}
 use lib.Ieee.Exact.{HasValue}

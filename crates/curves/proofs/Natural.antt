@@ -1,7 +1,6 @@
 -- The split of exp: every x that reaches the tables is split exactly, and its rows lie within the tables.
-use Rattle.std.proofs.Common.{◌≡◌, ℕ, zero, suc, ◌+◌, ◌-◌, ◌*◌, ◌/◌, ◌%◌, ◌^◌, ◌<◌, ◌≤◌, Bool, true, false, cond, not, T, ◌⊎◌, ℤ, pos, negsuc, ◌+ℤ◌, neg_ℤ, ◌≤ℤ◌, sym, refl, ap, ◌∙◌, subst, inl, inr, ⊎_elim, le_trans, lt_of_lt_of_le, mul-le-mul_right, eq-zero-or-pos, mul-le-mul_left, mul-lt-mul_of_pos_right, le_of_mul-le-mul_right, arith, lit<, lit≤, pow_pos}
-use lib.Ieee.{Float, nan, inf, fin, Format, binary32, prec, low, up, down, fits, mul, neg, of_bits, to_bits, is_nan, to_signed, lt, le, eq}
-use lib.Ieee.Fits.{down_pos}
+use Rattle.std.proofs.Common.{◌≡◌, ℕ, zero, suc, ◌+◌, ◌-◌, ◌*◌, ◌/◌, ◌^◌, ◌<◌, ◌≤◌, Bool, true, false, cond, T, ◌⊎◌, ℤ, pos, negsuc, ◌+ℤ◌, neg_ℤ, sym, refl, ap, ◌∙◌, subst, inl, inr, ⊎_elim, le_trans, mul-le-mul_right, eq-zero-or-pos, mul-le-mul_left, le_of_mul-le-mul_right, arith, lit≤, pow_pos}
+use lib.Ieee.{Float, nan, inf, fin, Format, binary32, low, up, down, fits, mul, neg, of_bits, to_bits, is_nan, lt, le, eq}
 use borrow.Author.Differences.{ints}
 use Rattle.std.specs.Float.{float_with_sign}
 use Rattle.rounding.specs.Values.{signed}
@@ -9,8 +8,8 @@ use Rattle.arithmetic.specs.Arithmetic.{Arithmetic, Lawful, Nearest, RoundsAway,
 use Rattle.arithmetic.specs.Unrounded.{Holds}
 use Rattle.arithmetic.proofs.Digits.{Units, units, within_zero, within_range}
 use Rattle.arithmetic.specs.Whole.{halves}
-use Rattle.curves.specs.Steps.{pattern, magnitude, single}
-use Rattle.curves.specs.Exp.{kf, k, lo, shifted, row_of_whole, row_of_rest, ExpReaches}
+use Rattle.curves.specs.Steps.{single}
+use Rattle.curves.specs.Exp.{kf, k, lo, ExpReaches}
 use Rattle.curves.specs.Split.{Splits, InRows, ExpSplits}
 use Rattle.curves.proofs.Reduction.{Input, Rounded, scaled, scaled_small, rounded, k_is, k_below, lo_is, left_over, splits, step}
 use Rattle.curves.proofs.Sizes.{pattern_of, below, above, pattern_lt, pattern_is, magnitude_is}

@@ -1,23 +1,23 @@
 -- The split x = k / 2 ^ j + lo under every lawful arithmetic, for either format: k is nearest to 2 ^ j x, and lo is not rounded.
-use Rattle.std.proofs.Common.{◌≡◌, ℕ, zero, suc, ◌+◌, ◌-◌, ◌*◌, ◌/◌, ◌^◌, ◌<◌, ◌≤◌, min, Bool, true, false, cond, not, ◌&&◌, T, ltb, ◌⊎◌, List, [], ◌∷◌, ℤ, pos, negsuc, ◌+ℤ◌, ◌*ℤ◌, neg_ℤ, nat_abs, ◌≤ℤ◌, sym, refl, ap, ◌∙◌, subst, ap₂, inl, inr, le_trans, le_of_eq, lt_of_lt_of_le, mul-le-mul_right, zero-lt-suc, mul_assoc, mul_comm, div-lt_iff_lt-mul, eq-zero-or-pos, mul-pos, mul-one, le_of_mul-le-mul_right, mul-div_cancel, arith, lit≤, lt→ltb, pow_pos, pow_mono, pow-add}
+use Rattle.std.proofs.Common.{◌≡◌, ℕ, zero, suc, ◌+◌, ◌-◌, ◌*◌, ◌/◌, ◌^◌, ◌<◌, ◌≤◌, min, Bool, true, false, cond, not, ◌&&◌, T, ltb, ◌⊎◌, [], ◌∷◌, ℤ, pos, negsuc, ◌+ℤ◌, ◌*ℤ◌, neg_ℤ, nat_abs, ◌≤ℤ◌, sym, refl, ap, ◌∙◌, subst, inl, inr, le_trans, le_of_eq, lt_of_lt_of_le, mul-le-mul_right, mul_assoc, mul_comm, div-lt_iff_lt-mul, eq-zero-or-pos, mul-pos, mul-one, le_of_mul-le-mul_right, mul-div_cancel, arith, lit≤, lt→ltb, pow_pos, pow-add}
 use lib.IntN.{*ℤ_comm}
-use lib.Ieee.{Float, nan, inf, fin, Format, binary32, binary64, prec, emax, low, up, down, unlike, fits, round, sum, mul, to_signed}
+use lib.Ieee.{Float, nan, inf, fin, Format, binary32, binary64, prec, emax, low, up, down, unlike, round, sum, mul, to_signed}
 use lib.Ieee.Bits.{is_true}
 use lib.Ieee.Exact.{HasValue}
 use lib.Ieee.Fits.{down_pos, mul-fits}
 use lib.Ieee.Scale.{round_same}
 use borrow.Author.Differences.{ints}
 use Rattle.std.specs.Float.{float_is_finite}
-use Rattle.exact.specs.Fraction.{Fraction, Same, whole, integer, dyadic, times, plus, opposite, difference, absolute, ◌≼◌}
-use Rattle.exact.proofs.Ring.{con, ◌⊕◌, ◌⊗◌, ⊝, norm}
+use Rattle.exact.specs.Fraction.{Same, whole, integer, dyadic, times, opposite, difference, absolute, ◌≼◌}
+use Rattle.exact.proofs.Ring.{◌⊕◌, ◌⊗◌, ⊝, norm}
 use Rattle.exact.proofs.Integer.{zring, x₀, x₁, x₂, x₃}
-use Rattle.exact.proofs.Equal.{cancel, same_sym, same_trans, same_plus}
+use Rattle.exact.proofs.Equal.{same_sym, same_trans, same_plus}
 use Rattle.rounding.specs.Values.{signed, value}
 use Rattle.rounding.specs.Whole.{NearestAway}
 use Rattle.arithmetic.specs.Arithmetic.{OneOrTwo, RoundsAway, Nearest}
-use Rattle.arithmetic.specs.Signs.{ratio, dist, dist_mul, order, signed_mul, signed_size, signed_not, size_mul, gap_not, gap_over, neg_mul}
+use Rattle.arithmetic.specs.Signs.{ratio, dist, dist_mul, signed_mul, signed_size, signed_not, gap_not}
 use Rattle.arithmetic.specs.Unrounded.{Holds, Exactly, round_holds, mul_add_sum, sum_exact, value_over, value_exactly, value_finite}
-use Rattle.arithmetic.proofs.Digits.{Units, units, pow_split, holds_small, small_in}
+use Rattle.arithmetic.proofs.Digits.{pow_split, holds_small, small_in}
 use Rattle.arithmetic.specs.Whole.{halves, halves_near, nearest_same, nearest_is, twice_pos}
 use Rattle.curves.specs.Split.{Splits}
 use Rattle.curves.proofs.Coarse.{next_to}

@@ -1,15 +1,14 @@
 -- Every entry of the four tables keeps its rule: one computed test for each whole table, and one lemma that carries it to a row.
-use Rattle.std.proofs.Common.{◌≡◌, ℕ, suc, ◌+◌, ◌-◌, ◌*◌, ◌/◌, ◌%◌, ◌^◌, ◌<◌, ◌≤◌, Bool, true, false, ◌&&◌, T, ltb, leb, List, length, get_or, ℤ, pos, ◌-ℤ◌, nat_abs, sym, refl, ap, ◌∙◌, subst, zero-lt-suc, arith, lit≤, ltb→lt, leb→le, pow_pos}
+use Rattle.std.proofs.Common.{◌≡◌, ℕ, suc, ◌+◌, ◌-◌, ◌*◌, ◌/◌, ◌%◌, ◌^◌, ◌<◌, ◌≤◌, Bool, true, false, ◌&&◌, T, ltb, leb, length, get_or, pos, ◌-ℤ◌, sym, refl, ap, ◌∙◌, subst, zero-lt-suc, arith, lit≤, ltb→lt, leb→le, pow_pos}
 use native.Mathlib.Nat.{le_of_suc-le}
-use lib.Ieee.{Float, binary64, of_bits, hid, top, ones, low, size}
-use lib.Ieee.Bits.{is_false}
+use lib.Ieee.{binary64, size}
 use lib.Ieee.Exact.{HasValue}
 use lib.Ieee.Fits.{and_l, and_r}
 use borrow.Author.Differences.{ints}
 use std.Quotient.{cls}
 use Rattle.exact.specs.Fraction.{Fraction, fraction, plus, times}
 use Rattle.exact.specs.Exponential.{within, series, rest, Allowed}
-use Rattle.exact.specs.Logarithm.{Base, binary}
+use Rattle.exact.specs.Logarithm.{binary}
 use Rattle.exact.specs.Exact.{OfExp, OfPower, exp, exp2}
 use Rattle.exact.proofs.Rational.{ℚ, ◌+q◌, ◌-q◌}
 use Rattle.exact.proofs.Bound.{Bound}

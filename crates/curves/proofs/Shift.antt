@@ -1,8 +1,8 @@
 -- The shift and the mask of a k of either sign, moved up by 104 * 128, give a quotient and a remainder from 0.
-use Rattle.std.proofs.Common.{◌≡◌, ℕ, ◌+◌, ◌-◌, ◌/◌, ◌%◌, ◌^◌, ◌<◌, ◌≤◌, ℤ, pos, negsuc, ◌+ℤ◌, nat_abs, refl, arith, w32, SFits, to_z, of_z}
+use Rattle.std.proofs.Common.{◌≡◌, ℕ, ◌/◌, ◌%◌, ◌^◌, ◌<◌, ℤ, pos, ◌+ℤ◌, nat_abs, refl, arith, w32, SFits, to_z, of_z}
 use lib.Signed.{shr_z}
 use lib.Bits.{bit_and}
-use Rattle.std.proofs.lemmas.Int.{ints, to_z-of_z, to_z_pos}
+use Rattle.std.proofs.lemmas.Int.{to_z-of_z, to_z_pos}
 use Rattle.std.proofs.lemmas.Nat.{and_mask}
 
 pub whole_is : (k : ℤ) (m : ℕ) → SFits w32 k → k +ℤ pos 13312 ≡ pos m → m < 2 ^ 31 → nat_abs (to_z w32 (of_z w32 (shr_z (to_z w32 (of_z w32 (to_z w32 (of_z w32 k) +ℤ pos 13312))) 128))) ≡ m / 128

@@ -1,8 +1,7 @@
 -- The size of an f32 from its pattern. With no sign, patterns are in the order of the sizes.
-use Rattle.std.proofs.Common.{◌≡◌, ℕ, zero, suc, ◌+◌, ◌-◌, ◌*◌, ◌/◌, ◌%◌, ◌^◌, ◌<◌, ◌≤◌, Bool, true, false, cond, ℤ, sym, refl, ap, ◌∙◌, subst, mul-le-mul_right, div-lt_iff_lt-mul, le-div_iff_mul-le, mul-div_cancel, arith, pow_pos, pow_mono, pow-add}
+use Rattle.std.proofs.Common.{◌≡◌, ℕ, ◌+◌, ◌-◌, ◌*◌, ◌/◌, ◌%◌, ◌^◌, ◌<◌, ◌≤◌, Bool, true, false, cond, ℤ, sym, ap, ◌∙◌, subst, mul-le-mul_right, div-lt_iff_lt-mul, le-div_iff_mul-le, mul-div_cancel, arith, pow_pos, pow_mono, pow-add}
 use native.Mathlib.Decide.{dec_lt}
-use lib.Bits.{bit_and}
-use lib.Ieee.{Float, fin, binary32, up, down, size, to_bits}
+use lib.Ieee.{fin, binary32, up, down, size, to_bits}
 use lib.Ieee.Digits.{size_reaches, size-le}
 use lib.Ieee.Fits.{kept-lt, down_pos}
 use Rattle.std.proofs.lemmas.Nat.{and_mask, le-div}

@@ -1,9 +1,9 @@
 -- Whole numbers from -149 to 127, and the f32 that is 2 to such a power.
-use Rattle.std.proofs.Common.{◌≡◌, ℕ, zero, suc, ◌+◌, ◌-◌, ◌*◌, ◌/◌, ◌%◌, ◌^◌, ◌<◌, ◌≤◌, min, Bool, true, false, cond, not, ◌&&◌, ◌||◌, T, eqb, ltb, leb, ◌⊎◌, get_or, replicate, ℤ, pos, negsuc, ◌+ℤ◌, neg_ℤ, nat_abs, ◌≤ℤ◌, ◌<ℤ◌, sym, refl, ap, ◌∙◌, subst, ap₂, inl, inr, mul_comm, mul-one, arith, le→leb, eqb→eq, leb→le, w32, SFits}
+use Rattle.std.proofs.Common.{◌≡◌, ℕ, zero, suc, ◌+◌, ◌-◌, ◌*◌, ◌/◌, ◌%◌, ◌<◌, ◌≤◌, min, Bool, true, false, cond, not, ◌&&◌, ◌||◌, T, eqb, leb, ◌⊎◌, replicate, ℤ, pos, negsuc, ◌+ℤ◌, neg_ℤ, nat_abs, ◌≤ℤ◌, sym, refl, ap, ◌∙◌, subst, ap₂, inl, inr, mul-one, arith, le→leb, eqb→eq, leb→le, w32, SFits}
 use mathlib.Core.Bool.{beq}
 use native.Mathlib.Nat.{eq_of_mul-eq-mul_right, div-add-mod, mul-mod_left}
 use lib.Signed.{le_z}
-use lib.Ieee.{Float, nan, inf, fin, binary32, up, down, minus, eq, round, of_int, to_signed, of_bits, of_fields, odd, fits, is_nan, nan_bits, to_bits}
+use lib.Ieee.{Float, nan, inf, fin, binary32, up, down, minus, eq, round, of_int, to_signed, of_bits, fits, is_nan, nan_bits, to_bits}
 use lib.Ieee.Back.{round_whole, whole_unique}
 use lib.Ieee.Bits.{is_true, is_false, nan_bits_is}
 use lib.Ieee.Exact.{HasValue}

@@ -1,5 +1,5 @@
 -- The rule of a table: each entry is within one unit of the number that it stands for.
-use Rattle.std.specs.Prelude.{ℕ, suc, T, ℤ, pos, ◌-ℤ◌, Float}
+use Rattle.std.specs.Prelude.{ℕ, T, pos, ◌-ℤ◌, Float}
 use Rattle.std.proofs.Common.{zero-lt-suc}
 use Rattle.std.specs.Float.{binary64}
 use Rattle.std.specs.Float.Ieee.Scale.{finite}

@@ -1,5 +1,5 @@
 -- exp under an arithmetic: its bands in order, its split, its table rows and its polynomial.
-use Rattle.std.specs.Prelude.{ℕ, ◌+◌, ◌-◌, ◌/◌, ◌%◌, ◌<◌, ◌≤◌, Bool, cond, not, ◌&&◌, T, ◌⊎◌, ℤ, pos, negsuc, is_nan, nat_le, nat_lt, Float}
+use Rattle.std.specs.Prelude.{ℕ, ◌+◌, ◌-◌, ◌/◌, ◌%◌, ◌<◌, ◌≤◌, cond, not, ◌&&◌, T, ◌⊎◌, ℤ, pos, negsuc, is_nan, nat_le, nat_lt, Float}
 use Rattle.std.specs.Float.Ieee.{mul, neg, to_signed}
 use Rattle.std.specs.Float.{round_to_format, binary32, binary64}
 use Rattle.arithmetic.specs.Arithmetic.{Arithmetic}

@@ -1,5 +1,5 @@
 -- exp10 under an arithmetic: its bands in order, its reduction, its table rows and its polynomials.
-use Rattle.std.specs.Prelude.{ℕ, ◌<◌, ◌≤◌, Bool, cond, not, ◌&&◌, T, ◌⊎◌, ℤ, is_nan, nat_le, nat_lt, Float}
+use Rattle.std.specs.Prelude.{◌<◌, ◌≤◌, cond, not, ◌&&◌, T, ◌⊎◌, ℤ, is_nan, nat_le, nat_lt, Float}
 use Rattle.std.specs.Float.Ieee.{mul, to_signed}
 use Rattle.std.specs.Float.{round_to_format, binary32, binary64}
 use Rattle.arithmetic.specs.Arithmetic.{Arithmetic}

@@ -1,5 +1,5 @@
 -- exp2 under an arithmetic: its bands in order, its split, its table rows and its polynomials.
-use Rattle.std.specs.Prelude.{◌≡◌, ℕ, ◌-◌, ◌*◌, ◌%◌, ◌^◌, ◌<◌, ◌≤◌, Bool, true, false, cond, not, ◌&&◌, T, ◌⊎◌, ℤ, pos, negsuc, ◌==◌, int_le, is_nan, nat_le, nat_lt, Float}
+use Rattle.std.specs.Prelude.{◌≡◌, ℕ, ◌-◌, ◌*◌, ◌%◌, ◌^◌, ◌<◌, ◌≤◌, Bool, false, cond, not, ◌&&◌, T, ◌⊎◌, ℤ, pos, negsuc, ◌==◌, int_le, is_nan, nat_le, nat_lt, Float}
 use Rattle.std.specs.Float.Ieee.{up, down, mul, neg, to_signed}
 use Rattle.std.specs.Float.{round_to_format, nan, inf, fin, binary32, binary64}
 use Rattle.arithmetic.specs.Arithmetic.{Arithmetic}

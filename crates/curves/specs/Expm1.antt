@@ -1,5 +1,5 @@
 -- expm1 under an arithmetic: its bands in order, its polynomial, and exp's split, rows and polynomial less one.
-use Rattle.std.specs.Prelude.{ℕ, Bool, cond, ◌&&◌, is_nan, nat_le, nat_lt, Float}
+use Rattle.std.specs.Prelude.{cond, ◌&&◌, is_nan, nat_le, nat_lt, Float}
 use Rattle.std.specs.Float.Ieee.{mul, neg}
 use Rattle.std.specs.Float.{round_to_format, binary32, binary64}
 use Rattle.arithmetic.specs.Arithmetic.{Arithmetic}

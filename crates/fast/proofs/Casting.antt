@@ -1,10 +1,10 @@
 -- The whole number that an f64 is, by the digits of its sum with 2 ^ 52 + 2 ^ 51.
-use Rattle.std.proofs.Common.{◌≡◌, ℕ, zero, suc, ◌+◌, ◌-◌, ◌*◌, ◌/◌, ◌%◌, ◌^◌, ◌<◌, ◌≤◌, min, Bool, true, false, cond, ◌&&◌, ◌||◌, T, eqb, ltb, ℤ, pos, ◌+ℤ◌, neg_ℤ, sym, refl, ap, ◌∙◌, subst, inl, inr, mul-le-mul_right, eq-zero-or-pos, mul-lt-mul_of_pos_right, mul-pos, mul-one, mul-div_cancel, arith, eqb→eq, pow_pos, le-ltb, lt-ltb}
+use Rattle.std.proofs.Common.{◌≡◌, ℕ, ◌+◌, ◌-◌, ◌*◌, ◌/◌, ◌%◌, ◌^◌, ◌<◌, ◌≤◌, min, Bool, true, false, cond, ◌||◌, T, eqb, ltb, ℤ, pos, ◌+ℤ◌, neg_ℤ, sym, refl, ap, ◌∙◌, subst, inl, inr, mul-le-mul_right, eq-zero-or-pos, mul-lt-mul_of_pos_right, mul-pos, mul-one, mul-div_cancel, arith, eqb→eq, pow_pos, le-ltb, lt-ltb}
 use mathlib.Core.Bool.{beq}
 use native.Mathlib.Nat.{eq_of_mul-eq-mul_right}
 use borrow.Author.Differences.{ints}
 use borrow.Author.Tests.{lt-leb}
-use lib.Ieee.{Float, Format, nan, inf, fin, binary64, prec, up, down, round, add, sub, neg, sum, eq, of_bits, to_signed}
+use lib.Ieee.{Float, Format, nan, inf, fin, binary64, up, down, round, add, sub, neg, sum, eq, of_bits, to_signed}
 use lib.Ieee.Fits.{down_pos, and_l, and_r}
 use lib.Ieee.Back.{round_whole}
 use lib.Ieee.Exact.{HasValue}

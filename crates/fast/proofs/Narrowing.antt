@@ -1,9 +1,8 @@
 -- The f32 nearest to an f64, by its pattern.
-use Rattle.std.proofs.Common.{◌≡◌, ℕ, zero, suc, ◌+◌, ◌-◌, ◌*◌, ◌/◌, ◌%◌, ◌^◌, ◌<◌, ◌≤◌, Bool, true, false, cond, not, T, leb, ◌⊎◌, sym, refl, ap, ◌∙◌, subst, inl, inr, lt_of_lt_of_le, mul-le-mul_right, mul_assoc, div-lt_iff_lt-mul, eq-zero-or-pos, mul-lt-mul_of_pos_right, mul-pos, lt_of_not-le, le-div_iff_mul-le, not-le_of_lt, arith, pow_pos, pow_mono, pow-add, le-leb}
+use Rattle.std.proofs.Common.{◌≡◌, ℕ, zero, suc, ◌+◌, ◌-◌, ◌*◌, ◌/◌, ◌%◌, ◌^◌, ◌<◌, ◌≤◌, Bool, not, T, leb, sym, ap, ◌∙◌, subst, inl, inr, lt_of_lt_of_le, mul-le-mul_right, mul_assoc, div-lt_iff_lt-mul, eq-zero-or-pos, mul-lt-mul_of_pos_right, mul-pos, lt_of_not-le, le-div_iff_mul-le, not-le_of_lt, arith, pow_pos, pow_mono, pow-add}
 use Prim.Native.Nat.compare
 use Prim.Native.Nat.{compare, Ordering}
-use borrow.Author.Tests.{lt-leb}
-use lib.Ieee.{Float, Format, nan, inf, fin, binary32, binary64, prec, low, up, down, size, nearest, units, round, fits, of_bits, to_bits, nan_bits}
+use lib.Ieee.{Float, nan, inf, fin, binary32, binary64, up, down, size, nearest, units, round, fits, of_bits, to_bits, nan_bits}
 use lib.Ieee.Digits.{size-lt, size-le}
 use lib.Ieee.Fits.{down_pos, round_is}
 use lib.Ieee.Bits.{of_bits-to_bits}

@@ -1,5 +1,5 @@
 -- A float by its value and by its pattern, in either format.
-use Rattle.std.proofs.Common.{◌≡◌, ℕ, zero, suc, ◌+◌, ◌-◌, ◌*◌, ◌/◌, ◌%◌, ◌^◌, ◌<◌, ◌≤◌, Bool, true, false, cond, not, T, eqb, ltb, leb, sym, refl, ap, ◌∙◌, subst, inl, inr, lt_of_lt_of_le, eq-zero-or-pos, mul-div_cancel, arith, pow_mono, shl_lt, le-ltb, lt-ltb, ne_eqb, le-leb}
+use Rattle.std.proofs.Common.{◌≡◌, ℕ, zero, suc, ◌+◌, ◌-◌, ◌*◌, ◌/◌, ◌%◌, ◌^◌, ◌<◌, ◌≤◌, Bool, true, false, cond, not, T, eqb, ltb, leb, sym, refl, ap, ◌∙◌, subst, inl, inr, lt_of_lt_of_le, eq-zero-or-pos, mul-div_cancel, arith, pow_mono, shl_lt, lt-ltb, ne_eqb, le-leb}
 use lib.Arith.{le→nltb}
 use borrow.Author.Tests.{lt-leb}
 use lib.Ieee.{Float, Format, nan, inf, fin, binary32, binary64, prec, low, emax, up, down, size, odd, units, fits, of_bits, of_fields, to_bits, nan_bits, top, hid, ones}

@@ -1,5 +1,5 @@
 -- The value of a float of either format, by where the point stands in its digits.
-use Rattle.std.proofs.Common.{◌≡◌, ℕ, zero, suc, ◌+◌, ◌-◌, ◌*◌, ◌/◌, ◌%◌, ◌^◌, ◌<◌, ◌≤◌, leb, sym, subst, inl, inr, lt_of_lt_of_le, div-lt_iff_lt-mul, eq-zero-or-pos, arith, pow_pos, pow_mono, shl_lt}
+use Rattle.std.proofs.Common.{◌≡◌, ℕ, suc, ◌+◌, ◌-◌, ◌*◌, ◌/◌, ◌%◌, ◌^◌, ◌<◌, ◌≤◌, leb, sym, subst, inl, inr, lt_of_lt_of_le, div-lt_iff_lt-mul, eq-zero-or-pos, arith, pow_pos, pow_mono, shl_lt}
 use lib.Ieee.{Format, binary32, binary64, prec, low, top, hid, ones, of_bits, of_fields}
 use lib.Ieee.Exact.{HasValue, odd_sign}
 use Rattle.fast.specs.Point.{Places}

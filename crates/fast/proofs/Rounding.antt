@@ -1,11 +1,11 @@
 -- The whole number nearest to a float of either format, halves away from zero, by its pattern.
-use Rattle.std.proofs.Common.{◌≡◌, ℕ, zero, suc, ◌+◌, ◌-◌, ◌*◌, ◌/◌, ◌%◌, ◌^◌, ◌<◌, ◌≤◌, Bool, true, false, cond, not, T, leb, ◌⊎◌, pos, sym, refl, ap, ◌∙◌, subst, inl, inr, lt_of_lt_of_le, div-lt_iff_lt-mul, eq-zero-or-pos, mul-pos, arith, le→leb, pow_pos, pow_mono, pow-add, shl_lt, shl_exact}
+use Rattle.std.proofs.Common.{◌≡◌, ℕ, zero, suc, ◌+◌, ◌-◌, ◌*◌, ◌/◌, ◌%◌, ◌^◌, ◌<◌, ◌≤◌, Bool, true, false, not, T, leb, pos, sym, refl, ap, ◌∙◌, subst, div-lt_iff_lt-mul, mul-pos, arith, le→leb, pow_pos, pow-add, shl_exact}
 use native.Mathlib.Nat.{div-eq_of_lt}
-use lib.Ieee.{Float, Format, nan, inf, fin, binary32, binary64, prec, low, emax, top, hid, ones, up, down, odd, units, round, fits, of_bits, of_fields, of_int, in_float, to_bits, is_nan, nan_bits}
+use lib.Ieee.{Float, Format, nan, inf, fin, binary32, binary64, prec, low, top, hid, up, down, round, fits, of_bits, of_int, in_float, to_bits, is_nan, nan_bits}
 use lib.Ieee.Fits.{down_pos, round_is, round-fits}
 use lib.Ieee.Back.{round_whole}
 use lib.Ieee.Bits.{of_bits-to_bits, to_bits-lt, nan_bits_is}
-use lib.Ieee.Exact.{HasValue, odd_sign}
+use lib.Ieee.Exact.{HasValue}
 use lib.Ieee.Nearest.{div_same}
 use Rattle.std.specs.Float.{float_round, round_with, float_with_sign}
 use Rattle.fast.proofs.Patterns.{signed_units, signed_bits, sign_of}

@@ -1,6 +1,6 @@
 -- Roundings whose errors are told in parts of a number h between 2 ^ -160 and 2 ^ 160.
-use Rattle.std.proofs.Common.{ℕ, ◌^◌, T, [], ◌∷◌, refl, subst, lit≤}
-use lib.Ieee.{Float, binary64, mul, le}
+use Rattle.std.proofs.Common.{◌^◌, T, [], ◌∷◌, refl, subst, lit≤}
+use lib.Ieee.{Float, binary64, mul}
 use lib.Ieee.Scale.{finite}
 use Rattle.exact.proofs.Ring.{◌⊕◌, ◌⊖◌, ◌⊗◌, ⊝, norm}
 use Rattle.exact.proofs.Integer.{x₀, x₁, x₂, x₃, x₄, x₅}

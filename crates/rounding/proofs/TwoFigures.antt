@@ -3,7 +3,7 @@ use Rattle.std.proofs.Common.{◌≡◌, ℕ, ◌+◌, ◌*◌, ◌^◌, ◌<◌
 use native.Mathlib.Nat.{eq_of_mul-eq-mul_right}
 use lib.Dec.{not_T}
 use lib.Signed.{le_z}
-use lib.Ieee.{Float, nan, inf, fin, Format, low, up, down, le}
+use lib.Ieee.{Float, nan, inf, fin, Format, low, up, down}
 use lib.Ieee.Fits.{up_pos}
 use lib.Ieee.Exact.{HasValue}
 use lib.Ieee.Scale.{grid, finite}

@@ -1,5 +1,5 @@
 -- The whole number nearest to a fraction.
-use Rattle.std.specs.Prelude.{◌≡◌, ℤ}
+use Rattle.std.specs.Prelude.{ℤ}
 use Rattle.exact.specs.Fraction.{Fraction, whole, integer, times, absolute, apart, Same, ◌≼◌}
 
 -- z is at most a half away from q

@@ -1,4 +1,4 @@
-use Rattle.std.proofs.Common.{◌≡◌, ◌<◌, T, ℤ, pos, ◌+ℤ◌, ◌-ℤ◌, sym, ap, ◌∙◌, subst, arith, w32, w64, to_z, of_z}
+use Rattle.std.proofs.Common.{◌≡◌, ◌<◌, T, pos, ◌+ℤ◌, ◌-ℤ◌, sym, ap, ◌∙◌, subst, arith, w32, w64, to_z, of_z}
 use borrow.Author.Differences.{ints}
 use lib.Ieee.{Float, binary64, add, sub, eq, of_bits}
 use lib.Ieee.Bits.{of_bits-to_bits}

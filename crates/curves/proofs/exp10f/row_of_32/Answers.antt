@@ -1,4 +1,4 @@
-use Rattle.std.proofs.Common.{◌<◌, lit≤}
+use Rattle.std.proofs.Common.{lit≤}
 use Rattle.curves.proofs.Fields.{row_is, row_lt}
 use Rattle.curves.proofs.exp10f.row_of_32.Goals as goal
 

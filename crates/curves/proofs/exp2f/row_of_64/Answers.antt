@@ -1,4 +1,4 @@
-use Rattle.std.proofs.Common.{◌<◌, lit≤}
+use Rattle.std.proofs.Common.{lit≤}
 use Rattle.curves.proofs.Fields.{row_is, row_lt}
 use Rattle.curves.proofs.exp2f.row_of_64.Goals as goal
 

@@ -1,4 +1,4 @@
-use Rattle.std.proofs.Common.{◌≡◌, ◌/◌, ◌%◌, ◌^◌, ◌<◌, ◌≤◌, sym, arith}
+use Rattle.std.proofs.Common.{◌/◌, ◌^◌, ◌<◌, ◌≤◌, sym, arith}
 use Rattle.curves.specs.Exp.{shifted}
 use Rattle.curves.proofs.Shift.{whole_is, rest_is}
 use Rattle.curves.proofs.expf.rows.Goals as goal

@@ -1,4 +1,4 @@
-use Rattle.std.proofs.Common.{◌≡◌, Bool, true, false, T, Some, sym, refl, ap, ◌∙◌, subst, w32, to_z, of_z}
+use Rattle.std.proofs.Common.{◌≡◌, true, false, T, Some, sym, refl, ap, ◌∙◌, subst, w32, to_z, of_z}
 use lib.Ieee.{Float, to_signed, eq}
 use Rattle.std.proofs.lemmas.Int.{to_z-of_z}
 use Rattle.curves.proofs.WholePower.{tested, below_powers, above_powers, no_power}
