@@ -1,5 +1,5 @@
 -- exp2 whole: every figure is right, exact at whole numbers, in agreement with any other lawful one, and as IEEE 754-2019 has it at the special values.
-use Rattle.std.proofs.Common.{◌≡◌, ℕ, ◌+◌, ◌-◌, ◌*◌, ◌/◌, ◌%◌, ◌<◌, ◌≤◌, min, Bool, true, false, cond, not, ◌&&◌, T, ltb, leb, ◌⊎◌, ℤ, pos, negsuc, ◌+ℤ◌, ◌*ℤ◌, neg_ℤ, nat_abs, ◌≤ℤ◌, sym, refl, ap, ◌∙◌, subst, inl, inr, zero-lt-suc, mul-one, arith, lit≤, eqb→eq}
+use Rattle.std.proofs.Common.{◌≡◌, ℕ, ◌+◌, ◌*◌, ◌/◌, ◌%◌, ◌<◌, ◌≤◌, min, Bool, true, false, cond, not, ◌&&◌, T, ltb, leb, ◌⊎◌, ℤ, pos, negsuc, ◌+ℤ◌, ◌*ℤ◌, neg_ℤ, nat_abs, ◌≤ℤ◌, sym, refl, ap, ◌∙◌, subst, inl, inr, zero-lt-suc, mul-one, arith, lit≤, eqb→eq}
 use native.Mathlib.Nat.{div-add-mod, mul-mod_left}
 use lib.Signed.{le_z, le_z_yes}
 use lib.Ieee.{Float, nan, inf, fin, binary32, up, down, fits, is_nan, to_signed, of_bits, to_bits}

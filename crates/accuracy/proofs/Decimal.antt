@@ -1,5 +1,5 @@
 -- exp10 whole: every figure is right, exact at whole numbers from 0 to 10, in agreement with any other lawful one, and as IEEE 754-2019 has it at the special values.
-use Rattle.std.proofs.Common.{◌≡◌, ℕ, zero, suc, ◌+◌, ◌-◌, ◌*◌, ◌^◌, ◌<◌, ◌≤◌, Bool, true, false, cond, not, ◌&&◌, T, ltb, leb, ◌⊎◌, [], ◌∷◌, ℤ, pos, sym, refl, ap, ◌∙◌, subst, inl, inr, le_trans, zero-lt-suc, arith, lit≤, eqb→eq, pow_pos, pow_mono}
+use Rattle.std.proofs.Common.{◌≡◌, ℕ, zero, suc, ◌+◌, ◌*◌, ◌^◌, ◌<◌, ◌≤◌, Bool, true, false, cond, not, ◌&&◌, T, ltb, leb, ◌⊎◌, [], ◌∷◌, ℤ, pos, sym, refl, ap, ◌∙◌, subst, inl, inr, le_trans, zero-lt-suc, arith, lit≤, eqb→eq, pow_pos, pow_mono}
 use lib.Ieee.{Float, nan, inf, fin, binary32, up, down, fits, is_nan, of_bits, to_bits, size}
 use lib.Ieee.Bits.{is_false}
 use lib.Ieee.Scale.{finite}

@@ -1,5 +1,5 @@
 -- exp10 near zero: 1 + x p(x), p of seven terms by Horner's scheme, is within 2 ^ -43 of 10 ^ x, relative to it, before the narrowing.
-use Rattle.std.proofs.Common.{◌≡◌, ℕ, ◌+◌, ◌-◌, ◌*◌, ◌≤◌, T, [], ◌∷◌, pos, sym, refl, subst, inr, le_trans, lit≤}
+use Rattle.std.proofs.Common.{◌≡◌, ℕ, ◌≤◌, T, [], ◌∷◌, pos, sym, refl, subst, inr, le_trans, lit≤}
 use lib.Ieee.{Float, binary32, binary64, of_bits, fits}
 use lib.Ieee.Scale.{finite}
 use Rattle.exact.specs.Logarithm.{decimal}

@@ -20,7 +20,7 @@ use Rattle.rounding.proofs.Error.{eps, tiny, round_err}
 use Rattle.rounding.proofs.Multiple.{Mult, Away, away_more, away_above, away_below, mult_away, mult_whole}
 use Rattle.rounding.proofs.Range.{permitted_fits, ranged, ranged_finite}
 use Rattle.rounding.proofs.Patterns.{sized, size_of, sized_mono}
-use Rattle.arithmetic.specs.Arithmetic.{Arithmetic, Lawful, small}
+use Rattle.arithmetic.specs.Arithmetic.{Arithmetic, Lawful}
 use Rattle.curves.specs.Steps.{pattern, magnitude, single}
 use Rattle.curves.specs.Exp.{kf, k, lo, shifted, row_of_whole, row_of_rest, ExpReaches}
 use Rattle.curves.proofs.Natural.{exp_splits_lem}

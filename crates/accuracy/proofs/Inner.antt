@@ -1,5 +1,5 @@
 -- What is said of the f64 before the narrowing, as a claim about the exact value.
-use Rattle.std.proofs.Common.{◌≡◌, ℕ, ◌≤◌, sym, refl, ap, ◌∙◌, subst, ap₂, inl, inr}
+use Rattle.std.proofs.Common.{◌≡◌, sym, refl, ap, ◌∙◌, subst, inl, inr}
 use lib.Ieee.{Float}
 use std.Quotient.{cls}
 use Rattle.exact.specs.Fraction.{Fraction, times, absolute}
@@ -12,7 +12,6 @@ use Rattle.exact.proofs.Claims.{holds}
 use Rattle.rounding.specs.Values.{value}
 use Rattle.rounding.proofs.Value.{val, val_value}
 use Rattle.rounding.proofs.Distance.{abs_cls}
-use Rattle.curves.specs.Steps.{magnitude}
 use Rattle.accuracy.specs.Inner.{NearBy, ExpInner, Expm1Inner}
 use Rattle.accuracy.proofs.Outcome.{Near, sum}
 use Rattle.accuracy.proofs.ExpSplit.{reaches_finite}

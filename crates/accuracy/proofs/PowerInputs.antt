@@ -1,5 +1,5 @@
 -- What the patterns of exp2's and exp10's bands say of the input as a number.
-use Rattle.std.proofs.Common.{ℕ, ◌+◌, ◌-◌, ◌*◌, ◌^◌, ◌<◌, ◌≤◌, true, false, T, ◌⊎◌, [], pos, sym, refl, ◌∙◌, subst, inr, ⊎_elim, le_trans, mul-le-mul_right, arith, lit≤, pow_pos}
+use Rattle.std.proofs.Common.{ℕ, ◌+◌, ◌*◌, ◌^◌, ◌<◌, ◌≤◌, true, false, T, [], pos, sym, refl, ◌∙◌, subst, inr, ⊎_elim, le_trans, mul-le-mul_right, arith, lit≤, pow_pos}
 use lib.Ieee.{Float, nan, inf, fin, binary32, fits, is_nan, to_bits}
 use lib.Ieee.Scale.{finite}
 use Rattle.exact.specs.Logarithm.{binary, decimal}

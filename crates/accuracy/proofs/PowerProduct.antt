@@ -1,5 +1,5 @@
 -- The steps that exp2 and exp10 share past their splits: mh, a row with a power of two, times the polynomial at lo. What is computed is within 2 ^ -50 of it, in parts of mh, and every argument lies in the range of the law.
-use Rattle.std.proofs.Common.{◌≡◌, ◌+◌, ◌-◌, ◌*◌, ◌^◌, ◌≤◌, T, [], ◌∷◌, pos, refl, subst, inr, lit≤}
+use Rattle.std.proofs.Common.{◌≡◌, ◌^◌, T, [], ◌∷◌, pos, refl, subst, inr, lit≤}
 use lib.Ieee.{Float, binary64, mul, of_bits, fits}
 use lib.Ieee.Fits.{mul-fits}
 use lib.Ieee.Scale.{finite}

@@ -1,5 +1,5 @@
 -- A row with a power of two times the polynomial is within 2 ^ -43 of e ^ t, relative to it, where t is within 2 ^ -58 of the sum of the three logarithms: what exp2 and exp10 share.
-use Rattle.std.proofs.Common.{◌≡◌, ℕ, suc, ◌+◌, ◌-◌, ◌*◌, ◌^◌, ◌<◌, ◌≤◌, T, [], ◌∷◌, ℤ, pos, negsuc, ◌+ℤ◌, ◌*ℤ◌, nat_abs, sym, refl, ap, ◌∙◌, subst, le_trans, arith, lit≤, pow_pos, pow_mono}
+use Rattle.std.proofs.Common.{◌≡◌, ℕ, suc, ◌^◌, ◌<◌, ◌≤◌, T, [], ◌∷◌, ℤ, pos, negsuc, ◌+ℤ◌, ◌*ℤ◌, nat_abs, sym, refl, ap, ◌∙◌, subst, le_trans, arith, lit≤, pow_pos, pow_mono}
 use lib.Ieee.{Float, binary64, of_bits}
 use lib.Ieee.Scale.{finite}
 use borrow.Author.Differences.{ints, le_in}

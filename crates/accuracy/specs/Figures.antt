@@ -1,15 +1,15 @@
 -- What is promised of a figure: y is the f32 that a curve gives for x.
-use Rattle.std.specs.Prelude.{◌≡◌, ℕ, ◌^◌, ◌≤◌, Bool, true, false, T, ℤ, pos, negsuc, ◌≤ℤ◌, Float}
+use Rattle.std.specs.Prelude.{◌≡◌, ℕ, ◌^◌, ◌≤◌, true, false, T, ℤ, pos, negsuc, ◌≤ℤ◌, Float}
 use Rattle.std.proofs.Common.{zero-lt-suc}
 use Rattle.std.specs.Float.{nan, inf, fin, binary32}
 use Rattle.std.specs.Float.Ieee.Scale.{finite}
-use Rattle.exact.specs.Fraction.{Fraction, Same, fraction, integer, whole, times, ◌≼◌}
+use Rattle.exact.specs.Fraction.{Fraction, Same, fraction, integer, whole, times}
 use Rattle.exact.specs.Exact.{Function, exp, exp2, exp10, expm1, Within, AtLeast, AtMost}
 use Rattle.rounding.specs.Values.{value, is_zero, ◌≺◌}
 use Rattle.rounding.specs.Units.{unit}
 use Rattle.rounding.specs.Nearest.{Held, Neighbouring, limit}
 use Rattle.rounding.specs.Errors.{middle, nearer_zero}
-use Rattle.arithmetic.specs.Arithmetic.{Arithmetic, Lawful}
+use Rattle.arithmetic.specs.Arithmetic.{Arithmetic}
 use Rattle.curves.specs.Exp.{exp_value}
 use Rattle.curves.specs.Exp2.{exp2_value}
 use Rattle.curves.specs.Exp10.{exp10_value}

@@ -1,5 +1,5 @@
 -- What is proved of a curve, for every finite f32 and every lawful arithmetic.
-use Rattle.std.specs.Prelude.{◌≡◌, ◌≤◌, T, Float}
+use Rattle.std.specs.Prelude.{◌≤◌, T, Float}
 use Rattle.std.specs.Float.{binary32}
 use Rattle.std.specs.Float.Ieee.{fits}
 use Rattle.std.specs.Float.Ieee.Scale.{finite}
