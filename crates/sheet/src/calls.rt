@@ -1,6 +1,6 @@
 // The five calls on a sheet.
 ghost use Rattle.std.specs.Prelude.{◌≡◌, ◌<◌, length};
-ghost use Rattle.sheet.specs.Pegs.{Checked, Found, peg as pegOf};
+ghost use Rattle.sheet.specs.Pegs.{Checked, Found, peg as peg_of};
 ghost use Rattle.sheet.specs.Calls.{Does, AllBlank, Turned, Sized, laying, entering, working, reading, clearing};
 ghost use Rattle.sheet.specs.Histories.{Kept, Starts};
 
@@ -24,7 +24,7 @@ pub(crate) fn size(sheet: &[Peg]) -> Result<u32, Fault>
 
 fn row(sheet: &[Peg], at: usize) -> Peg
     requires { at < length sheet.now }
-    ensures { result ≡ pegOf sheet.now at }
+    ensures { result ≡ peg_of sheet.now at }
 {
     sheet[at]
 }

@@ -11,10 +11,10 @@ returns-then-end-sheet g c = both _ _ _ _ (g.met.B.ExpfBackend.lawful c.args.ari
 pub loop-at-init : goal.loop-at-init
 loop-at-init g c = finished_none _ _ _ _ (omega arith)
 
-pub overflow-add-done : goal.overflow-add-done
-overflow-add-done g c =
+pub overflow_add-done : goal.overflow_add-done
+overflow_add-done g c =
     let few = entries_few (drop c.from-start.result c.args.sheet.now) (c.loop-at.at - c.from-start.result) in
-    let one = turned_few _ _ _ _ _ c.work-one-done.ensures in
+    let one = turned_few _ _ _ _ _ c.work_one-done.ensures in
     omega (arith, c.loop-at.invariant.number, few, one)
 
 pub loop-at-preserved : goal.loop-at-preserved
@@ -24,7 +24,7 @@ loop-at-preserved g c =
     let in-s : i < length c.args.sheet.now = omega arith in
     let at : i ≡ f + (i - f) = omega arith in
     let next : i + 1 - f ≡ suc (i - f) = omega arith in
-    finished_more _ _ f (i - f) i (i + 1 - f) c.loop-at.done _ c.loop-at.invariant at next in-s _ _ c.work-one-done.ensures
+    finished_more _ _ f (i - f) i (i + 1 - f) c.loop-at.done _ c.loop-at.invariant at next in-s _ _ c.work_one-done.ensures
 
 pub returns : goal.returns
 returns g c =

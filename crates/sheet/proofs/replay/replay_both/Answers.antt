@@ -5,15 +5,15 @@ use Rattle.sheet.specs.Lists.{BothReplayed, left_event, right_event}
 use Rattle.sheet.proofs.Tapes.{sofar_more, carried_out, both_carried_out}
 use Rattle.sheet.proofs.replay.replay_both.Goals as goal
 
-pub returns-in-err-sizes : goal.returns-in-err-sizes
-returns-in-err-sizes g c =
-    let p = err_from_is_err_and c.from-residual.result c.from-residual.ensures.1 in
-    let none = c.in-err-sizes.ensures in
-    subst (λ r. BothReplayed g.A.ExpfBackend.meaning g.B.ExpfBackend.meaning c.args.left.now c.args.right.now c.args.list.now r c.lay-both.new.left c.lay-both.new.right c.args.list.now)
+pub returns-in_err-sizes : goal.returns-in_err-sizes
+returns-in_err-sizes g c =
+    let p = err_from_is_err_and c.from_residual.result c.from_residual.ensures.1 in
+    let none = c.in_err-sizes.ensures in
+    subst (λ r. BothReplayed g.A.ExpfBackend.meaning g.B.ExpfBackend.meaning c.args.left.now c.args.right.now c.args.list.now r c.lay_both.new.left c.lay_both.new.right c.args.list.now)
     (sym (p.1 ∙ ap Err p.2)) (none.0, none.1, none.2, refl)
 
 pub loop-step-init : goal.loop-step-init
-loop-step-init g c = (record { calls = refl; reached = laid c.in-ok-sizes.ensures.0 }, record { calls = refl; reached = laid c.in-ok-sizes.ensures.1 })
+loop-step-init g c = (record { calls = refl; reached = laid c.in_ok-sizes.ensures.0 }, record { calls = refl; reached = laid c.in_ok-sizes.ensures.1 })
 
 pub loop-step-preserved : goal.loop-step-preserved
 loop-step-preserved g c =
@@ -27,10 +27,10 @@ loop-step-preserved g c =
 
 pub returns : goal.returns
 returns g c =
-    let on-left = c.in-ok-sizes.ensures.0.1 in
-    let on-right = c.in-ok-sizes.ensures.1.1 in
+    let on-left = c.in_ok-sizes.ensures.0.1 in
+    let on-right = c.in_ok-sizes.ensures.1.1 in
     let list = c.args.list.now in
     let done = c.loop-step.list in
-    both_carried_out g.A.ExpfBackend.meaning g.B.ExpfBackend.meaning c.args.left.now c.args.right.now list c.in-ok-sizes.sizes c.loop-step.left c.loop-step.right done
+    both_carried_out g.A.ExpfBackend.meaning g.B.ExpfBackend.meaning c.args.left.now c.args.right.now list c.in_ok-sizes.sizes c.loop-step.left c.loop-step.right done
     (carried_out (left_event g.A.ExpfBackend.meaning) c.args.left.now list _ c.loop-step.step-index c.loop-step.left done on-left.number (c.loop-step.auto.left ∙ on-left.size) (omega arith) c.loop-step.invariant.0)
     (carried_out (right_event g.B.ExpfBackend.meaning) c.args.right.now list _ c.loop-step.step-index c.loop-step.right done on-right.number (c.loop-step.auto.right ∙ on-right.size) (omega arith) c.loop-step.invariant.1)
