@@ -1,5 +1,5 @@
 -- A field with one more bit.
-use Rattle.std.proofs.Common.{◌≡◌, ℕ, suc, ◌+◌, ◌*◌, ◌^◌, ◌<◌, List, sym, refl, ap, ◌∙◌, subst, ap₂, mul_comm, pow-suc, add-one, arith}
+use Rattle.std.proofs.Common.{◌≡◌, ℕ, suc, ◌+◌, ◌*◌, ◌^◌, ◌<◌, List, sym, ap, ◌∙◌, subst, ap₂, mul_comm, pow-suc, add-one, arith}
 use Rattle.cards.specs.Bits.{bit_at, field_at}
 
 pub one_more : (bytes : List ℕ) (from k n b : ℕ) → n ≡ field_at bytes from k → b ≡ bit_at bytes (from + k) → b < 2 → n < 2 ^ k → (n * 2 + b ≡ field_at bytes from (k + 1)) × (n * 2 + b < 2 ^ (k + 1))

@@ -1,5 +1,5 @@
 -- The fields of six bytes, by whole bytes.
-use Rattle.std.proofs.Common.{◌≡◌, ℕ, zero, suc, ◌+◌, ◌-◌, ◌*◌, ◌/◌, ◌%◌, ◌^◌, ◌<◌, ◌≤◌, List, [], ◌∷◌, get_or, sym, refl, ap, ◌∙◌, subst, ap₂, add-zero, add_assoc, add-suc, mul_assoc, mul_comm, pow-suc, mul-one, mul-add, arith}
+use Rattle.std.proofs.Common.{◌≡◌, ℕ, zero, suc, ◌+◌, ◌*◌, ◌/◌, ◌%◌, ◌^◌, ◌<◌, List, [], ◌∷◌, sym, ap, ◌∙◌, ap₂, add-zero, add_assoc, add-suc, pow-suc, arith}
 use Rattle.cards.specs.Bits.{bit_at, field_at}
 
 -- a field of w + v bits

@@ -1,5 +1,5 @@
 -- A stream is played from the front on, and may be cut between two cards.
-use Rattle.std.proofs.Common.{◌≡◌, ℕ, zero, suc, ◌+◌, ◌-◌, ◌*◌, ◌<◌, ◌≤◌, min, ◌⊎◌, List, [], ◌∷◌, ◌++◌, length, take, drop, set, sym, refl, ap, ◌∙◌, subst, inl, inr, arith}
+use Rattle.std.proofs.Common.{◌≡◌, ℕ, ◌+◌, ◌-◌, ◌*◌, ◌<◌, ◌≤◌, min, List, [], ◌∷◌, ◌++◌, length, take, drop, set, sym, ap, ◌∙◌, subst, inl, inr, arith}
 use Rattle.std.proofs.lemmas.List.{take_all, drop_all, drop-drop, take_more_set, drop-set-lt, length-drop, length-append, append-nil, append_assoc, take-append-le, drop-append-le}
 use Rattle.arithmetic.specs.Arithmetic.{Arithmetic}
 use Rattle.arithmetic.specs.Signs.{order}
@@ -7,7 +7,7 @@ use Rattle.sheet.specs.Pegs.{Sheet}
 use Rattle.sheet.specs.Calls.{Answer}
 use Rattle.cards.specs.Format.{reply_of}
 use Rattle.cards.specs.Runs.{Counts, Takes}
-use Rattle.cards.specs.Streams.{Streamed, ended, next, cards_in, StreamsJoin}
+use Rattle.cards.specs.Streams.{Streamed, ended, next, StreamsJoin}
 
 -- the card at i: six bytes, or all that are left
 card_at : (bytes : List ℕ) (from : ℕ) → take (min (length bytes) (from + 6) - from) (drop from bytes) ≡ take 6 (drop from bytes)

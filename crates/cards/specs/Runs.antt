@@ -1,5 +1,5 @@
 -- What a run does with a card, and what its counts are after a list of cards.
-use Rattle.std.specs.Prelude.{◌≡◌, ℕ, ◌+◌, ◌-◌, ◌^◌, min, List, [], ◌∷◌, length, drop, Ok, Err, MatchBool, Result, ◌==◌, from_bits}
+use Rattle.std.specs.Prelude.{◌≡◌, ℕ, ◌+◌, ◌-◌, min, List, [], ◌∷◌, length, drop, Ok, Err, MatchBool, Result, ◌==◌, from_bits}
 use Rattle.std.specs.Float.{binary32}
 use Rattle.arithmetic.specs.Arithmetic.{Arithmetic}
 use Rattle.sheet.specs.declared.fault.Fault.{Fault}

@@ -1,5 +1,5 @@
 -- A played card by its answer, and a run by its counts.
-use Rattle.std.specs.Prelude.{◌≡◌, ℕ, Ok, Err, Result}
+use Rattle.std.specs.Prelude.{◌≡◌, Ok, Err, Result}
 use Rattle.sheet.specs.declared.fault.Fault.{Fault}
 use Rattle.sheet.specs.Calls.{Answer}
 use Rattle.cards.specs.declared.card.Card.{Card}

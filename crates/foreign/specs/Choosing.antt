@@ -1,7 +1,7 @@
 -- An arithmetic that is neither of ours: it chooses by its arguments.
-use Rattle.std.specs.Prelude.{Bool, false, cond, pos, Float}
+use Rattle.std.specs.Prelude.{false, cond, pos, Float}
 use Rattle.std.specs.Float.Ieee.{lt, eq}
-use Rattle.std.specs.Float.{float_mul_add, float_round, float_with_sign, Format, fin, binary32, binary64}
+use Rattle.std.specs.Float.{float_mul_add, float_round, Format, fin, binary32, binary64}
 use Rattle.arithmetic.specs.Arithmetic.{Arithmetic, two_step, small}
 
 -- once where the first factor is below the second, and two steps elsewhere

@@ -1,12 +1,10 @@
 -- The choosing arithmetic is lawful.
-use Rattle.std.specs.Prelude.{◌≡◌, ℕ, ◌+◌, ◌*◌, ◌/◌, ◌<◌, Bool, true, false, cond, T, ℤ, pos, ◌*ℤ◌, refl, Float}
-use Rattle.std.proofs.Common.{sym, ap, subst, ◌∙◌, inl, inr, div-lt_iff_lt-mul, arith, eqb→eq, ltb→lt}
+use Rattle.std.specs.Prelude.{◌≡◌, ℕ, ◌*◌, ◌<◌, Bool, true, false, cond, T, ℤ, pos, ◌*ℤ◌, refl, Float}
+use Rattle.std.proofs.Common.{sym, ap, ◌∙◌, inl, inr, div-lt_iff_lt-mul, arith, eqb→eq, ltb→lt}
 use Rattle.std.specs.Float.Ieee.{up, down, lt, eq, fits}
-use Rattle.std.specs.Float.Ieee.Bits.{is_true}
 use Rattle.std.specs.Float.Ieee.Fits.{down_pos, and_l}
 use Rattle.std.specs.Float.{float_is_finite, float_mul_add, float_round, float_with_sign, nan, inf, fin, Format, binary32, binary64}
-use Rattle.exact.specs.Fraction.{integer, Same}
-use Rattle.rounding.specs.Values.{signed, value}
+use Rattle.rounding.specs.Values.{signed}
 use Rattle.arithmetic.specs.Arithmetic.{Lawful, MulAdd, OneOrTwo, Nearest, RoundsAway, two_step, small, minus_zero}
 use Rattle.arithmetic.specs.Away.{rounds_away, nearest_away}
 use Rattle.arithmetic.specs.Whole.{halves, twice_pos}

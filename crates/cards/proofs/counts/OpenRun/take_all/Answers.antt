@@ -1,4 +1,4 @@
-use Rattle.std.proofs.Common.{◌+◌, ◌-◌, ◌*◌, ◌≤◌, length, take, drop, refl, subst, arith}
+use Rattle.std.proofs.Common.{◌-◌, ◌*◌, ◌≤◌, length, take, drop, refl, subst, arith}
 use Rattle.cards.specs.Runs.{Takes}
 use Rattle.cards.specs.Told.{counts_of}
 use Rattle.cards.proofs.Streaming.{sofar_more, played}
@@ -21,6 +21,6 @@ loop-at-preserved g c =
 pub returns : goal.returns
 returns g c =
     let bytes = c.args.bytes.now in
-    let all : length bytes ≤ c.div-ceil-cards.result * 6 = omega arith in
-    let stream = played (g.B.ExpfBackend.meaning c.args.arith.now) bytes (counts_of c.args.self.now) c.args.sheet.now c.args.replies.now c.div-ceil-cards.result c.loop-at.at c.loop-at.replies c.loop-at.sheet (counts_of c.loop-at.self) (omega arith) all c.loop-at.invariant in
+    let all : length bytes ≤ c.div_ceil-cards.result * 6 = omega arith in
+    let stream = played (g.B.ExpfBackend.meaning c.args.arith.now) bytes (counts_of c.args.self.now) c.args.sheet.now c.args.replies.now c.div_ceil-cards.result c.loop-at.at c.loop-at.replies c.loop-at.sheet (counts_of c.loop-at.self) (omega arith) all c.loop-at.invariant in
     (omega arith, omega arith, stream, c.loop-at.invariant.others)
