@@ -62,7 +62,7 @@ fn answer_all(rt: &HostRuntime) -> io::Result<u64> {
 
 fn wants_help(rt: &HostRuntime) -> io::Result<bool> {
     for word in env::args(rt)?.skip(1) {
-        if word == "--help" || word == "-h" {
+        if word.as_str() == "--help" || word.as_str() == "-h" {
             return Ok(true);
         }
     }
