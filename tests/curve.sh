@@ -2,7 +2,7 @@
 # What no contract can say of the program `curve`: what it writes for good and bad lines, and its status.
 set -euo pipefail
 cd "$(dirname "$0")/.."
-rt check curve >/dev/null || { echo 'curve: not built' >&2; exit 1; }
+tools/build curve || { echo 'curve: not built' >&2; exit 1; }
 curve=target/bin/curve
 fail() { printf 'curve: %s\n' "$*" >&2; exit 1; }
 

@@ -1,7 +1,6 @@
 /* The curves of Vastulm over the bit patterns of f32 (32-bit IEEE 754 floats).
  *
- * Build the library with `rt staticlib export`: target/staticlib/libexport.a. Link it with the kit's
- * C support library as well (librattle_c.a, in the kit's lib folder).
+ * Build the library with `tools/build export_c`: target/staticlib/libexport.a. It needs no other library.
  *
  * Each function takes a pattern and returns the pattern of the value. A NaN is written 0x7fc00000.
  * Nothing is asked of the caller. "two_step" rounds a product and then the sum; "fused" rounds once.

@@ -1,4 +1,4 @@
-// The curves as C functions over bit patterns, for a static library. Nothing is asked of the caller.
+// The curves as functions over bit patterns, as C calls them through the static library of export_c. Nothing is asked of the caller.
 
 #![tactic(auto)]
 
@@ -32,57 +32,49 @@ fn at_pattern<B: ExpfBackend>(arith: &B, curve: u32, bits: u32) -> u32
     f32_to_bits_with_nan(figure(arith, curve, f32_from_bits_with_nan(bits)))
 }
 
-#[unsafe(no_mangle)]
-pub extern "C" fn vastulm_exp_two_step(bits: u32) -> u32
+pub fn vastulm_exp_two_step(bits: u32) -> u32
     ensures { result ≡ answer (exp_value generic) bits }
 {
     at_pattern(&GenericExpfBackend {}, 0, bits)
 }
 
-#[unsafe(no_mangle)]
-pub extern "C" fn vastulm_exp_fused(bits: u32) -> u32
+pub fn vastulm_exp_fused(bits: u32) -> u32
     ensures { result ≡ answer (exp_value fusing) bits }
 {
     at_pattern(&FmaBackend {}, 0, bits)
 }
 
-#[unsafe(no_mangle)]
-pub extern "C" fn vastulm_exp2_two_step(bits: u32) -> u32
+pub fn vastulm_exp2_two_step(bits: u32) -> u32
     ensures { result ≡ answer (exp2_value generic) bits }
 {
     at_pattern(&GenericExpfBackend {}, 1, bits)
 }
 
-#[unsafe(no_mangle)]
-pub extern "C" fn vastulm_exp2_fused(bits: u32) -> u32
+pub fn vastulm_exp2_fused(bits: u32) -> u32
     ensures { result ≡ answer (exp2_value fusing) bits }
 {
     at_pattern(&FmaBackend {}, 1, bits)
 }
 
-#[unsafe(no_mangle)]
-pub extern "C" fn vastulm_exp10_two_step(bits: u32) -> u32
+pub fn vastulm_exp10_two_step(bits: u32) -> u32
     ensures { result ≡ answer (exp10_value generic) bits }
 {
     at_pattern(&GenericExpfBackend {}, 2, bits)
 }
 
-#[unsafe(no_mangle)]
-pub extern "C" fn vastulm_exp10_fused(bits: u32) -> u32
+pub fn vastulm_exp10_fused(bits: u32) -> u32
     ensures { result ≡ answer (exp10_value fusing) bits }
 {
     at_pattern(&FmaBackend {}, 2, bits)
 }
 
-#[unsafe(no_mangle)]
-pub extern "C" fn vastulm_expm1_two_step(bits: u32) -> u32
+pub fn vastulm_expm1_two_step(bits: u32) -> u32
     ensures { result ≡ answer (expm1_value generic) bits }
 {
     at_pattern(&GenericExpfBackend {}, 3, bits)
 }
 
-#[unsafe(no_mangle)]
-pub extern "C" fn vastulm_expm1_fused(bits: u32) -> u32
+pub fn vastulm_expm1_fused(bits: u32) -> u32
     ensures { result ≡ answer (expm1_value fusing) bits }
 {
     at_pattern(&FmaBackend {}, 3, bits)
@@ -99,8 +91,7 @@ fn fill<B: ExpfBackend>(arith: &B, curve: u32, patterns: &mut [u32])
 
 // Replaces every pattern by the curve's answer under the arithmetic and returns 0. Curves: 0 exp, 1 exp2, 2 exp10,
 // 3 expm1; arithmetics: 0 two-step, 1 fused. Another number of a curve returns 1, of an arithmetic 2, and nothing changes.
-#[unsafe(no_mangle)]
-pub extern "C" fn vastulm_fill(curve: u32, arithmetic: u32, patterns: &mut [u32]) -> u32
+pub fn vastulm_fill(curve: u32, arithmetic: u32, patterns: &mut [u32]) -> u32
     ensures no_curve { 3 < curve → (result ≡ 1) × (patterns.new ≡ patterns.old) }
     ensures no_arithmetic { curve ≤ 3 → 1 < arithmetic → (result ≡ 2) × (patterns.new ≡ patterns.old) }
     ensures done { curve ≤ 3 → arithmetic ≤ 1 → (result ≡ 0) × Answered (curve_of curve (arithmetic_of arithmetic)) patterns.old patterns.new }
