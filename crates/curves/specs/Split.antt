@@ -63,10 +63,10 @@ pub record Reduces (a : Arithmetic) (x : Float) : Type 0 where
   -- kd is that number: its conversion to an integer loses nothing
   pub whole_kd : T (float_is_finite (Exp10.kd a x))
   pub kept : Same (value (Exp10.kd a x)) (integer (Exp10.k a x))
-  -- the first step is x + k minusLogHi, with no rounding
+  -- the first step is x + k minus_log_hi, with no rounding
   pub finite_first : T (float_is_finite (Exp10.first a x))
   pub exact : Same (value (Exp10.first a x)) (plus (value x) (times (integer (Exp10.k a x)) (value Exp10.minus_log_hi)))
-  -- lo is the first step and k minusLogLo, within 2 ^ -60, and at most 1 / 212
+  -- lo is the first step and k minus_log_lo, within 2 ^ -60, and at most 1 / 212
   pub finite_lo : T (float_is_finite (Exp10.lo a x))
   pub near : apart (value (Exp10.lo a x)) (plus (value (Exp10.first a x)) (times (integer (Exp10.k a x)) (value Exp10.minus_log_lo))) ≼ dyadic (pos 1) 60
   pub small : absolute (value (Exp10.lo a x)) ≼ fraction (pos 1) 212 (zero-lt-suc 211)

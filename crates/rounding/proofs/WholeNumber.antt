@@ -37,7 +37,7 @@ half_small m K d P D l h = elim (order P K) [
 half_whole : (n : ℕ) → ratio_round_half_up n 1 ≡ n
 half_whole n = omega arith
 
--- in its own format a value rounds to the whole number `halfUp`, exactly
+-- in its own format a value rounds to the whole number `ratio_round_half_up`, exactly
 rounded_whole : (f : Format) (s : Bool) (m : ℕ) (e : ℤ) → T (fits f (fin s m e)) → HasValue (round f s (ratio_round_half_up (m * up e) (down e)) 1) s (ratio_round_half_up (m * up e) (down e)) 1
 rounded_whole f s m (pos k) t =
     let d = digits f (fin s m (pos k)) tt t in
