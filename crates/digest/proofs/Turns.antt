@@ -1,5 +1,5 @@
 -- One turn of each loop: what is left from here leads where it led before.
-use Rattle.std.proofs.Common.{◌≡◌, ℕ, suc, ◌+◌, ◌-◌, ◌*◌, ◌%◌, ◌^◌, ◌<◌, ◌≤◌, sym, refl, ap, ◌∙◌, arith}
+use Rattle.std.proofs.Common.{◌≡◌, ℕ, suc, ◌+◌, ◌-◌, ◌*◌, ◌%◌, ◌^◌, ◌<◌, ◌≤◌, sym, ap, ◌∙◌, arith}
 use Rattle.digest.specs.Digest.{mixed, after, block, joined, after_blocks}
 
 fewer : (m i : ℕ) → i < m → m - i ≡ suc (m - (i + 1))
