@@ -1,16 +1,16 @@
--- The choosing arithmetic is lawful.
+-- The choosing arithmetic is lawful where its multiply-add is one of the two that the law allows.
 use Rattle.std.specs.Prelude.{◌≡◌, ℕ, ◌*◌, ◌<◌, Bool, true, false, cond, T, ℤ, pos, ◌*ℤ◌, refl, Float}
 use Rattle.std.proofs.Common.{sym, ap, ◌∙◌, div-lt_iff_lt-mul, arith, eqb→eq, ltb→lt}
 use Rattle.std.specs.Float.Ieee.{up, down, lt, eq, fits}
 use Rattle.std.specs.Float.Ieee.Fits.{down_pos, and_l}
-use Rattle.std.specs.Float.{float_is_finite, float_round, float_with_sign, nan, inf, fin, Format, binary32, binary64}
+use Rattle.std.specs.Float.{float_is_finite, float_round, nan, inf, fin, Format, binary32, binary64}
 use Rattle.rounding.specs.Values.{signed}
 use Rattle.arithmetic.specs.Arithmetic.{Lawful, OneOrTwo, Nearest, RoundsAway, small, minus_zero}
 use Rattle.arithmetic.specs.Away.{rounds_away, nearest_away}
 use Rattle.arithmetic.specs.Whole.{halves, twice_pos}
 use Rattle.foreign.specs.Choosing.{choosing, by_order, plain_zero}
 
-abbrev zero : Float
+abbrev pub zero : Float
 zero = fin false 0 (pos 0)
 
 zero_fits : (f : Format) → T (fits f zero)
@@ -60,12 +60,5 @@ plain_zero_lem f x w t = go (eq x zero) (zero_away f x) (small x) t
     go false h false u = absurd u
 
 -- lawful where its multiply-add is one of the two; that it is, the impl shows, so that an edit of by_order is refused there
-pub choosing_lawful : ((f : Format) (x y z : Float) → OneOrTwo f x y z (by_order f x y z)) → Lawful choosing
-choosing_lawful h = record { fmaf_law = λ x y z p q r a b c. h binary32 x y z; fma_law = λ x y z p q r a b c. h binary64 x y z; roundf_law = plain_zero_lem binary32; round_law = plain_zero_lem binary64 }
-
--- the three ways of the code
-pub rounded_is : (f : Format) (x y r : Float) → eq x zero ≡ false → y ≡ float_with_sign false x → lt y (fin false 1 (pos 22)) ≡ true → r ≡ float_round f x → r ≡ plain_zero f x
-rounded_is f x y r z a l e = rw (z, sym (ap (λ (u : Float). lt u (fin false 1 (pos 22))) a) ∙ l) e
-
-pub left_is : (f : Format) (x y : Float) → eq x zero ≡ false → y ≡ float_with_sign false x → lt y (fin false 1 (pos 22)) ≡ false → x ≡ plain_zero f x
-left_is f x y z a l = rw (z, sym (ap (λ (u : Float). lt u (fin false 1 (pos 22))) a) ∙ l) refl
+pub lawful_where : ((f : Format) (x y z : Float) → OneOrTwo f x y z (by_order f x y z)) → Lawful choosing
+lawful_where h = record { fmaf_law = λ x y z p q r a b c. h binary32 x y z; fma_law = λ x y z p q r a b c. h binary64 x y z; roundf_law = plain_zero_lem binary32; round_law = plain_zero_lem binary64 }

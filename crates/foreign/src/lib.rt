@@ -8,7 +8,7 @@ ghost use Rattle.std.specs.Float.Ieee.{lt};
 ghost use Rattle.std.specs.Float.{float_mul_add, binary32, binary64};
 ghost use Rattle.arithmetic.specs.Arithmetic.{OneOrTwo, two_step};
 ghost use Rattle.foreign.specs.Choosing.{choosing, plain_zero};
-ghost use Rattle.foreign.specs.Lawful.{choosing_lawful};
+ghost use Rattle.foreign.specs.Lawful.{lawful_where};
 
 use arithmetic::ExpfBackend;
 
@@ -44,7 +44,7 @@ pub struct ChoosingBackend {}
 impl ExpfBackend for ChoosingBackend {
     ghost meaning = { λ _. choosing };
 
-    ghost lawful = { λ b. choosing_lawful (λ f x y z. elim (lt x y) as (λ v. OneOrTwo f x y z (cond v (float_mul_add f x y z) (two_step f x y z))) [ true ↦ inl refl | false ↦ inr refl ]) };
+    ghost lawful = { λ b. lawful_where (λ f x y z. elim (lt x y) as (λ v. OneOrTwo f x y z (cond v (float_mul_add f x y z) (two_step f x y z))) [ true ↦ inl refl | false ↦ inr refl ]) };
 
     fn fmaf(&self, x: f32, y: f32, z: f32) -> f32 {
         if x < y { x.mul_add(y, z) } else { x * y + z }

@@ -1,6 +1,6 @@
 use Rattle.std.proofs.Common.{refl}
 use lib.Ieee.{binary64, of_bits}
-use Rattle.foreign.specs.Lawful.{rounded_is, left_is}
+use Rattle.foreign.proofs.Lawful.{rounded_is, left_is}
 use Rattle.foreign.proofs.plain_f64.Goals as goal
 
 pub returns-then-x : goal.returns-then-x
