@@ -13,43 +13,31 @@ ghost use Rattle.accuracy.specs.Arguments.{ExpArguments, Expm1Arguments};
 ghost use Rattle.accuracy.specs.Inner.{ExpInner, Expm1Inner};
 
 /// exp: every figure is right and exact, any two arithmetics agree on it, and the special values are the standard's.
-pub fn exp_is_accurate() -> u8
+pub fn exp_is_accurate()
     ensures { Proved exp }
-{
-    0
-}
+{}
 
 /// expm1: every figure is right and exact, any two arithmetics agree on it, and the special values are the standard's.
-pub fn expm1_is_accurate() -> u8
+pub fn expm1_is_accurate()
     ensures { Proved expm1 }
-{
-    0
-}
+{}
 
 /// Every argument that exp hands to its arithmetic lies in the law's ranges.
-pub fn exp_asks_within_the_law() -> u8
+pub fn exp_asks_within_the_law()
     ensures { ExpArguments }
-{
-    0
-}
+{}
 
 /// Every argument that expm1 hands to its arithmetic lies in the law's ranges.
-pub fn expm1_asks_within_the_law() -> u8
+pub fn expm1_asks_within_the_law()
     ensures { Expm1Arguments }
-{
-    0
-}
+{}
 
 /// The f64 that is rounded to exp's figure is within 2^-45 of the exact value, relative to its own size.
-pub fn exp_is_near_before_narrowing() -> u8
+pub fn exp_is_near_before_narrowing()
     ensures { ExpInner }
-{
-    0
-}
+{}
 
 /// The f64 that is rounded to expm1's figure is within 17 * 2^-52 of the exact value by the polynomial, and within 125 * 2^-48 by the tables, relative to its own size.
-pub fn expm1_is_near_before_narrowing() -> u8
+pub fn expm1_is_near_before_narrowing()
     ensures { Expm1Inner }
-{
-    0
-}
+{}

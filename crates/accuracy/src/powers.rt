@@ -5,50 +5,36 @@ ghost use Rattle.accuracy.specs.PowerBounds.{Exp2Inner, Exp10Inner};
 ghost use Rattle.accuracy.specs.PowerArguments.{Exp2Arguments, Exp10Arguments};
 
 // Every figure of exp2 is right, exact at whole numbers from -149 to 127, and in agreement with any other lawful one.
-pub fn exp2_is_accurate() -> u8
+pub fn exp2_is_accurate()
     ensures { Proved exp2 }
-{
-    0
-}
+{}
 
 // Every figure of exp10 is right, exact at whole numbers from 0 to 10, and in agreement with any other lawful one.
-pub fn exp10_is_accurate() -> u8
+pub fn exp10_is_accurate()
     ensures { Proved exp10 }
-{
-    0
-}
+{}
 
 // Near one exp10 gives the f32 nearest to 10^x.
-pub fn exp10_near_one_is_nearest() -> u8
+pub fn exp10_near_one_is_nearest()
     ensures { NearOneNearest }
-{
-    0
-}
+{}
 
 // The f64 that exp2 narrows is within 2^-43 of 2^x by the table, and within 2^-47 near zero.
-pub fn exp2_is_near_before_narrowing() -> u8
+pub fn exp2_is_near_before_narrowing()
     ensures { Exp2Inner }
-{
-    0
-}
+{}
 
 // The f64 that exp10 narrows is within 2^-43 of 10^x.
-pub fn exp10_is_near_before_narrowing() -> u8
+pub fn exp10_is_near_before_narrowing()
     ensures { Exp10Inner }
-{
-    0
-}
+{}
 
 // Every argument that exp2 hands to fma and round lies in the ranges of the law.
-pub fn exp2_asks_within_the_law() -> u8
+pub fn exp2_asks_within_the_law()
     ensures { Exp2Arguments }
-{
-    0
-}
+{}
 
 // Every argument that exp10 hands to fma and round lies in the ranges of the law.
-pub fn exp10_asks_within_the_law() -> u8
+pub fn exp10_asks_within_the_law()
     ensures { Exp10Arguments }
-{
-    0
-}
+{}

@@ -28,8 +28,6 @@ pub fn reply(answer: Result<u32, Fault>) -> [u8; 5]
 }
 
 // The bytes of a reply tell the refusal and the result.
-pub fn replies_tell() -> u8
+pub fn replies_tell()
     ensures { RepliesTell }
-{
-    0
-}
+{}

@@ -35,8 +35,6 @@ impl OpenRun {
 }
 
 // A stream may be cut between two cards.
-pub fn streams_join() -> u8
+pub fn streams_join()
     ensures { StreamsJoin }
-{
-    0
-}
+{}

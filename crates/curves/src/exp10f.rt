@@ -152,8 +152,6 @@ impl Curve for Exp10 {
 }
 
 // Every x that reaches the table is reduced by the nearest k, the first step exactly, and to a small lo, under every lawful arithmetic.
-pub fn exp10_splits() -> u8
+pub fn exp10_splits()
     ensures { Exp10Splits }
-{
-    0
-}
+{}

@@ -126,8 +126,6 @@ impl Curve for Exp2 {
 }
 
 // Every x that reaches the table is split exactly, and alike, under every lawful arithmetic.
-pub fn exp2_splits() -> u8
+pub fn exp2_splits()
     ensures { Exp2Splits }
-{
-    0
-}
+{}

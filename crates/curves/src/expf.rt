@@ -112,8 +112,6 @@ impl Curve for Exp {
 }
 
 // Every x that reaches the tables is split exactly, and alike, under every lawful arithmetic.
-pub fn exp_splits() -> u8
+pub fn exp_splits()
     ensures { ExpSplits }
-{
-    0
-}
+{}

@@ -9,155 +9,111 @@ ghost use Rattle.rounding.specs.Operations.{RoundNearest, Products, Sums, Multip
 ghost use Rattle.rounding.specs.Errors.{NearestUnique, HeldUnchanged, InfiniteExactly, InfiniteNear, HalfUnit, RelativeError, NearFigure, MultiplyAddError, ExactMultiplyAdd, MultiplesStay, MultiplesAway, TwoFigures, FiguresAgree};
 
 /// The exponent E that the unit of a figure is defined by has 2^E ≤ |y| < 2^(E+1).
-pub fn exponent_bounds() -> u8
+pub fn exponent_bounds()
     ensures { ExponentBounds }
-{
-    0
-}
+{}
 
 /// The units of 1, of 0, of the smallest normal value and of the largest.
-pub fn unit_examples() -> u8
+pub fn unit_examples()
     ensures { UnitExamples }
-{
-    0
-}
+{}
 
 /// The limits of overflow, 2^128 - 2^103 and 2^1024 - 2^970.
-pub fn limits() -> u8
+pub fn limits()
     ensures { Limits }
-{
-    0
-}
+{}
 
 /// `round` gives the nearest value of the format, ties to even.
-pub fn round_nearest() -> u8
+pub fn round_nearest()
     ensures { RoundNearest }
-{
-    0
-}
+{}
 
 /// Multiplication is IEEE 754-2019's.
-pub fn products() -> u8
+pub fn products()
     ensures { Products }
-{
-    0
-}
+{}
 
 /// Addition is IEEE 754-2019's.
-pub fn sums() -> u8
+pub fn sums()
     ensures { Sums }
-{
-    0
-}
+{}
 
 /// The fused multiply-add is IEEE 754-2019's.
-pub fn multiply_adds() -> u8
+pub fn multiply_adds()
     ensures { MultiplyAdds }
-{
-    0
-}
+{}
 
 /// The conversion to a format is IEEE 754-2019's.
-pub fn conversions() -> u8
+pub fn conversions()
     ensures { Conversions }
-{
-    0
-}
+{}
 
 /// Rounding to a whole number is IEEE 754-2019's roundToIntegralTiesToAway.
-pub fn whole_numbers() -> u8
+pub fn whole_numbers()
     ensures { WholeNumbers }
-{
-    0
-}
+{}
 
 /// One value is nearest to a number, but for the sign of a zero.
-pub fn nearest_unique() -> u8
+pub fn nearest_unique()
     ensures { NearestUnique }
-{
-    0
-}
+{}
 
 /// A number that the format holds is not changed.
-pub fn held_unchanged() -> u8
+pub fn held_unchanged()
     ensures { HeldUnchanged }
-{
-    0
-}
+{}
 
 /// A number rounds to an infinity exactly from the limit on: 2^128 - 2^103 in binary32.
-pub fn infinite_exactly() -> u8
+pub fn infinite_exactly()
     ensures { InfiniteExactly }
-{
-    0
-}
+{}
 
 /// And so it is told from a number near it.
-pub fn infinite_near() -> u8
+pub fn infinite_near()
     ensures { InfiniteNear }
-{
-    0
-}
+{}
 
 /// A result is off by half its unit at most.
-pub fn half_unit() -> u8
+pub fn half_unit()
     ensures { HalfUnit }
-{
-    0
-}
+{}
 
 /// In the normal range it is off by 2^-prec of the number at most.
-pub fn relative_error() -> u8
+pub fn relative_error()
     ensures { RelativeError }
-{
-    0
-}
+{}
 
 /// A number within e of v rounds to a figure within half a unit and e of v.
-pub fn near_figure() -> u8
+pub fn near_figure()
     ensures { NearFigure }
-{
-    0
-}
+{}
 
 /// A multiply-add, rounded once or twice, keeps one bound.
-pub fn multiply_add_error() -> u8
+pub fn multiply_add_error()
     ensures { MultiplyAddError }
-{
-    0
-}
+{}
 
 /// Where the format holds the product and the sum, a multiply-add is exact, rounded once or twice.
-pub fn exact_multiply_add() -> u8
+pub fn exact_multiply_add()
     ensures { ExactMultiplyAdd }
-{
-    0
-}
+{}
 
 /// A multiple of 2^-k rounds to one, and what is 0 or at least 2^-k in size stays so.
-pub fn multiples_stay() -> u8
+pub fn multiples_stay()
     ensures { MultiplesStay }
-{
-    0
-}
+{}
 
 /// A multiple of 2^-k is 0 or at least 2^-k in size.
-pub fn multiples_away() -> u8
+pub fn multiples_away()
     ensures { MultiplesAway }
-{
-    0
-}
+{}
 
 /// Two numbers within e of v round to equal figures, or to neighbouring ones with v within e of their midpoint.
-pub fn two_figures() -> u8
+pub fn two_figures()
     ensures { TwoFigures }
-{
-    0
-}
+{}
 
 /// Two floats near v, relative to their own sizes, round to figures that agree to d units of the lesser.
-pub fn figures_agree() -> u8
+pub fn figures_agree()
     ensures { FiguresAgree }
-{
-    0
-}
+{}

@@ -9,11 +9,9 @@ use crate::peg::Peg;
 use arithmetic::ExpfBackend;
 
 // The promise over every list of calls.
-pub fn promise_holds() -> u8
+pub fn promise_holds()
     ensures { Promise }
-{
-    0
-}
+{}
 
 // A call, but for the sheet and the arithmetic that it is made with.
 #[derive(Clone, Copy)]
