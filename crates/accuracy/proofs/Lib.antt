@@ -35,3 +35,4 @@ pub mod Decimal
 pub mod Proved
 pub mod PowerArguments
 pub mod PowerBounds
+pub mod Named

@@ -1,3 +1,4 @@
+pub mod Functions
 pub mod Figures
 pub mod Theorems
 pub mod Arguments

@@ -4,22 +4,17 @@
 
 #![tactic(auto)]
 
-pub mod functions;
+pub mod function;
 pub mod powers;
 
-ghost use Rattle.exact.specs.Exact.{exp, expm1};
+ghost use Rattle.exact.specs.Exact.{Function};
 ghost use Rattle.accuracy.specs.Theorems.{Proved};
 ghost use Rattle.accuracy.specs.Arguments.{ExpArguments, Expm1Arguments};
 ghost use Rattle.accuracy.specs.Inner.{ExpInner, Expm1Inner};
 
-/// exp: every figure is right and exact, any two arithmetics agree on it, and the special values are the standard's.
-pub fn exp_is_accurate()
-    ensures { Proved exp }
-{}
-
-/// expm1: every figure is right and exact, any two arithmetics agree on it, and the special values are the standard's.
-pub fn expm1_is_accurate()
-    ensures { Proved expm1 }
+/// Every figure of the four is right and exact, any two arithmetics agree on it, and the special values are the standard's.
+pub fn functions_are_accurate()
+    ensures { (f : Function) → Proved f }
 {}
 
 /// Every argument that exp hands to its arithmetic lies in the law's ranges.

@@ -1,18 +1,7 @@
 // exp2 and exp10 near 2^x and 10^x, for every lawful arithmetic.
-ghost use Rattle.exact.specs.Exact.{exp2, exp10};
-ghost use Rattle.accuracy.specs.Theorems.{Proved, NearOneNearest};
+ghost use Rattle.accuracy.specs.Theorems.{NearOneNearest};
 ghost use Rattle.accuracy.specs.PowerBounds.{Exp2Inner, Exp10Inner};
 ghost use Rattle.accuracy.specs.PowerArguments.{Exp2Arguments, Exp10Arguments};
-
-// Every figure of exp2 is right, exact at whole numbers from -149 to 127, and in agreement with any other lawful one.
-pub fn exp2_is_accurate()
-    ensures { Proved exp2 }
-{}
-
-// Every figure of exp10 is right, exact at whole numbers from 0 to 10, and in agreement with any other lawful one.
-pub fn exp10_is_accurate()
-    ensures { Proved exp10 }
-{}
 
 // Near one exp10 gives the f32 nearest to 10^x.
 pub fn exp10_near_one_is_nearest()
