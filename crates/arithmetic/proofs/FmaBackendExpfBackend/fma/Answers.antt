@@ -5,7 +5,7 @@ use Rattle.arithmetic.proofs.FmaBackendExpfBackend.fma.Goals as goal
 
 pub returns : goal.returns
 returns c = record {
-  value = c.fused_f64.ensures;
-  law_kept = rw c.fused_f64.ensures (once_within binary64 400 c.args.x c.args.y c.args.z);
-  ieee = rw c.fused_f64.ensures (fused_inside binary64 400 c.args.x c.args.y c.args.z);
+  value = c.fused.ensures;
+  law_kept = rw c.fused.ensures (once_within binary64 400 c.args.x c.args.y c.args.z);
+  ieee = rw c.fused.ensures (fused_inside binary64 400 c.args.x c.args.y c.args.z);
 }

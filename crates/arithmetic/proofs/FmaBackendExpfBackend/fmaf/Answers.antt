@@ -5,7 +5,7 @@ use Rattle.arithmetic.proofs.FmaBackendExpfBackend.fmaf.Goals as goal
 
 pub returns : goal.returns
 returns c = record {
-  value = c.fused_f32.ensures;
-  law_kept = rw c.fused_f32.ensures (once_within binary32 60 c.args.x c.args.y c.args.z);
-  ieee = rw c.fused_f32.ensures (fused_inside binary32 60 c.args.x c.args.y c.args.z);
+  value = c.fused.ensures;
+  law_kept = rw c.fused.ensures (once_within binary32 60 c.args.x c.args.y c.args.z);
+  ieee = rw c.fused.ensures (fused_inside binary32 60 c.args.x c.args.y c.args.z);
 }

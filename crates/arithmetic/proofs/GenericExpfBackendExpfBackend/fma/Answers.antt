@@ -5,7 +5,7 @@ use Rattle.arithmetic.proofs.GenericExpfBackendExpfBackend.fma.Goals as goal
 
 pub returns : goal.returns
 returns c = record {
-  value = c.two_step_f64.ensures;
-  law_kept = rw c.two_step_f64.ensures (two_steps binary64 400 c.args.x c.args.y c.args.z);
-  ieee = rw c.two_step_f64.ensures (two_operations binary64 c.args.x c.args.y c.args.z);
+  value = c.two_step.ensures;
+  law_kept = rw c.two_step.ensures (two_steps binary64 400 c.args.x c.args.y c.args.z);
+  ieee = rw c.two_step.ensures (two_operations binary64 c.args.x c.args.y c.args.z);
 }

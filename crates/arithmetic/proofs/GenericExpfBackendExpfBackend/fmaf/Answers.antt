@@ -5,7 +5,7 @@ use Rattle.arithmetic.proofs.GenericExpfBackendExpfBackend.fmaf.Goals as goal
 
 pub returns : goal.returns
 returns c = record {
-  value = c.two_step_f32.ensures;
-  law_kept = rw c.two_step_f32.ensures (two_steps binary32 60 c.args.x c.args.y c.args.z);
-  ieee = rw c.two_step_f32.ensures (two_operations binary32 c.args.x c.args.y c.args.z);
+  value = c.two_step.ensures;
+  law_kept = rw c.two_step.ensures (two_steps binary32 60 c.args.x c.args.y c.args.z);
+  ieee = rw c.two_step.ensures (two_operations binary32 c.args.x c.args.y c.args.z);
 }
