@@ -46,6 +46,7 @@ fn two_step<T: Float>(x: T, y: T, z: T) -> T
 #[derive(Clone, Copy)]
 pub struct GenericExpfBackend {}
 
+#[tactic(auto, using(crate::specs::Away::rounds_away, crate::proofs::Standard::ties_to_away))]
 impl ExpfBackend for GenericExpfBackend {
     ghost meaning = { λ _. generic };
 
@@ -56,7 +57,7 @@ impl ExpfBackend for GenericExpfBackend {
         ensures law_kept { MulAdd binary32 60 x y z result }
         ensures ieee { TwoOperations binary32 x y z result }
     {
-        two_step(x, y, z)
+        two_step::<f32>(x, y, z)
     }
 
     fn fma(&self, x: f64, y: f64, z: f64) -> f64
@@ -64,7 +65,7 @@ impl ExpfBackend for GenericExpfBackend {
         ensures law_kept { MulAdd binary64 400 x y z result }
         ensures ieee { TwoOperations binary64 x y z result }
     {
-        two_step(x, y, z)
+        two_step::<f64>(x, y, z)
     }
 
     fn roundf(&self, x: f32) -> f32
@@ -72,7 +73,7 @@ impl ExpfBackend for GenericExpfBackend {
         ensures law_kept { Nearest binary32 x result }
         ensures ieee { TiesToAway binary32 x result }
     {
-        fast::round(x)
+        fast::round::<f32>(x)
     }
 
     fn round(&self, x: f64) -> f64
@@ -80,7 +81,7 @@ impl ExpfBackend for GenericExpfBackend {
         ensures law_kept { Nearest binary64 x result }
         ensures ieee { TiesToAway binary64 x result }
     {
-        fast::round(x)
+        fast::round::<f64>(x)
     }
 }
 
@@ -156,6 +157,7 @@ fn fused<T: Ranged>(x: T, y: T, z: T) -> T
 #[derive(Clone, Copy)]
 pub struct FmaBackend {}
 
+#[tactic(auto, using(crate::specs::Kept::once_within, crate::proofs::Standard::fused_inside))]
 impl ExpfBackend for FmaBackend {
     ghost meaning = { λ _. fusing };
 
@@ -166,7 +168,7 @@ impl ExpfBackend for FmaBackend {
         ensures law_kept { MulAdd binary32 60 x y z result }
         ensures ieee { FusedInside binary32 60 x y z result }
     {
-        fused(x, y, z)
+        fused::<f32>(x, y, z)
     }
 
     fn fma(&self, x: f64, y: f64, z: f64) -> f64
@@ -174,7 +176,7 @@ impl ExpfBackend for FmaBackend {
         ensures law_kept { MulAdd binary64 400 x y z result }
         ensures ieee { FusedInside binary64 400 x y z result }
     {
-        fused(x, y, z)
+        fused::<f64>(x, y, z)
     }
 
     fn roundf(&self, x: f32) -> f32
@@ -182,7 +184,7 @@ impl ExpfBackend for FmaBackend {
         ensures law_kept { Nearest binary32 x result }
         ensures ieee { TiesToAway binary32 x result }
     {
-        fast::round(x)
+        GenericExpfBackend {}.roundf(x)
     }
 
     fn round(&self, x: f64) -> f64
@@ -190,6 +192,6 @@ impl ExpfBackend for FmaBackend {
         ensures law_kept { Nearest binary64 x result }
         ensures ieee { TiesToAway binary64 x result }
     {
-        fast::round(x)
+        GenericExpfBackend {}.round(x)
     }
 }
