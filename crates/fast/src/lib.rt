@@ -214,3 +214,37 @@ pub fn to_i32(x: f64) -> i32
     }
     saturating_f64_to_i32(x)
 }
+
+#[cfg(test)]
+mod tests {
+    use super::*;
+    use std::process::Abort;
+
+    // What x is rounded to, by the bound alone.
+    fn rounds_to<T: Patterned>(rt: &impl Abort, x: T, n: u64)
+        requires { n ≤ T.LEADING }
+    {
+        assert!(rt; round(x) == T::from_whole(n));
+        assert!(rt; round(-x) == -T::from_whole(n));
+    }
+
+    #[test]
+    fn rounds_an_f32(rt: HostRuntime) {
+        rounds_to(&rt, 0.25f32, 0);
+        rounds_to(&rt, 0.49999997f32, 0);
+        rounds_to(&rt, 0.5f32, 1);
+        rounds_to(&rt, 2.5f32, 3);
+        rounds_to(&rt, 8388607.5f32, 8388608);
+        rounds_to(&rt, 8388608.0f32, 8388608);
+    }
+
+    #[test]
+    fn rounds_an_f64(rt: HostRuntime) {
+        rounds_to(&rt, 0.25f64, 0);
+        rounds_to(&rt, 0.49999999999999994f64, 0);
+        rounds_to(&rt, 0.5f64, 1);
+        rounds_to(&rt, 2.5f64, 3);
+        rounds_to(&rt, 4503599627370495.5f64, 4503599627370496);
+        rounds_to(&rt, 4503599627370496.0f64, 4503599627370496);
+    }
+}
