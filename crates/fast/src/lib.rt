@@ -13,6 +13,7 @@ use std::num::{
 };
 
 // The f32 nearest to x. Where that is a normal number, by its pattern: 29 of the digits are dropped, and half of the last kept one goes to the even number.
+#[tactic(auto, using(crate::proofs::Narrowing::no_nan, crate::proofs::Narrowing::by_pattern))]
 pub fn narrow(x: f64) -> f32
     ensures { result ≡ round_to_format binary32 x }
 {

@@ -37,6 +37,7 @@ fn plain<T: Patterned>(x: T) -> T
 #[derive(Clone, Copy)]
 pub struct ChoosingBackend {}
 
+#[tactic(auto, using(crate::specs::Lawful::plain_zero_lem))]
 impl ExpfBackend for ChoosingBackend {
     ghost meaning = { λ _. choosing };
 
