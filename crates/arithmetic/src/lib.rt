@@ -2,15 +2,17 @@
 
 #![tactic(auto)]
 
-ghost use Rattle.std.specs.Prelude.{◌≡◌};
+ghost use Rattle.std.specs.Prelude.{◌≡◌, ℕ, false, pos, refl};
 ghost use Rattle.arithmetic.specs.Arithmetic.{Arithmetic, Lawful, MulAdd, Nearest, TwoOperations, FusedInside, generic, fusing, fused_within, two_step, within};
 ghost use Rattle.rounding.specs.Operations.{TiesToAway};
-ghost use Rattle.std.specs.Float.{float_round, binary32, binary64};
+ghost use Rattle.std.specs.Float.Ieee.{minus};
+ghost use Rattle.std.specs.Float.{fin, binary32, binary64};
 ghost use Rattle.arithmetic.specs.Kept.{generic_lawful, fusing_lawful};
 
-use fast::{round_f32, round_f64};
+use num_traits::Float;
 
 // Four operations, each a fixed function of its arguments. None refuses.
+// They are not one pair over a type parameter: the project's rules name these four.
 pub trait ExpfBackend {
     ghost meaning: { Self → Arithmetic };
 
@@ -34,35 +36,17 @@ pub trait ExpfBackend {
 }
 
 // The product rounded, and then the sum.
-fn two_step_f32(x: f32, y: f32, z: f32) -> f32
-    ensures { result ≡ two_step binary32 x y z }
+fn two_step<T: Float>(x: T, y: T, z: T) -> T
+    ensures { T.float result ≡ two_step T.format (T.float x) (T.float y) (T.float z) }
 {
     x * y + z
-}
-
-fn two_step_f64(a: f64, b: f64, c: f64) -> f64
-    ensures { result ≡ two_step binary64 a b c }
-{
-    a * b + c
-}
-
-// The nearest whole number, halves away from zero.
-fn whole_f32(x: f32) -> f32
-    ensures { result ≡ float_round binary32 x }
-{
-    round_f32(x)
-}
-
-fn whole_f64(x: f64) -> f64
-    ensures { result ≡ float_round binary64 x }
-{
-    round_f64(x)
 }
 
 // Two steps everywhere: the product is rounded, and then the sum.
 #[derive(Clone, Copy)]
 pub struct GenericExpfBackend {}
 
+#[tactic(auto, using(crate::specs::Away::rounds_away, crate::proofs::Standard::ties_to_away))]
 impl ExpfBackend for GenericExpfBackend {
     ghost meaning = { λ _. generic };
 
@@ -73,7 +57,7 @@ impl ExpfBackend for GenericExpfBackend {
         ensures law_kept { MulAdd binary32 60 x y z result }
         ensures ieee { TwoOperations binary32 x y z result }
     {
-        two_step_f32(x, y, z)
+        two_step::<f32>(x, y, z)
     }
 
     fn fma(&self, x: f64, y: f64, z: f64) -> f64
@@ -81,7 +65,7 @@ impl ExpfBackend for GenericExpfBackend {
         ensures law_kept { MulAdd binary64 400 x y z result }
         ensures ieee { TwoOperations binary64 x y z result }
     {
-        two_step_f64(x, y, z)
+        two_step::<f64>(x, y, z)
     }
 
     fn roundf(&self, x: f32) -> f32
@@ -89,7 +73,7 @@ impl ExpfBackend for GenericExpfBackend {
         ensures law_kept { Nearest binary32 x result }
         ensures ieee { TiesToAway binary32 x result }
     {
-        whole_f32(x)
+        fast::round::<f32>(x)
     }
 
     fn round(&self, x: f64) -> f64
@@ -97,54 +81,75 @@ impl ExpfBackend for GenericExpfBackend {
         ensures law_kept { Nearest binary64 x result }
         ensures ieee { TiesToAway binary64 x result }
     {
-        whole_f64(x)
+        fast::round::<f64>(x)
     }
 }
 
-// 2^-400 and 2^400, 2^-60 and 2^60
-const LOW_F64: f64 = 3.8725919148493183e-121;
+// A float with the range of the law: magnitudes from 2^-range to 2^range.
+trait Ranged: Float {
+    const LOW: Self;
 
-const HIGH_F64: f64 = 2.5822498780869086e120;
+    const HIGH: Self;
 
-const LOW_F32: f32 = 8.673617379884035e-19;
+    ghost LOW: { Self };
 
-const HIGH_F32: f32 = 1.152921504606847e18;
+    ghost HIGH: { Self };
 
-// Whether x is zero or of magnitude 2^-400 to 2^400.
-fn within_f64(x: f64) -> bool
-    ensures { result ≡ within 400 x }
-{
-    let a = x.abs();
-    (a == 0.0) | ((LOW_F64 <= a) & (a <= HIGH_F64))
+    ghost range: { ℕ };
+
+    ghost low_law: { Self.float LOW ≡ fin false 1 (minus 0 range) };
+
+    ghost high_law: { Self.float HIGH ≡ fin false 1 (pos range) };
 }
 
-// Whether x is zero or of magnitude 2^-60 to 2^60.
-fn within_f32(x: f32) -> bool
-    ensures { result ≡ within 60 x }
+impl Ranged for f32 {
+    const LOW: f32 = 8.673617379884035e-19;
+
+    const HIGH: f32 = 1.152921504606847e18;
+
+    ghost LOW = { fin false 1 (minus 0 60) };
+
+    ghost HIGH = { fin false 1 (pos 60) };
+
+    ghost range = { 60 };
+
+    ghost low_law = { refl };
+
+    ghost high_law = { refl };
+}
+
+impl Ranged for f64 {
+    const LOW: f64 = 3.8725919148493183e-121;
+
+    const HIGH: f64 = 2.5822498780869086e120;
+
+    ghost LOW = { fin false 1 (minus 0 400) };
+
+    ghost HIGH = { fin false 1 (pos 400) };
+
+    ghost range = { 400 };
+
+    ghost low_law = { refl };
+
+    ghost high_law = { refl };
+}
+
+// Whether x is zero or of a magnitude in the range.
+fn within<T: Ranged>(x: T) -> bool
+    ensures { result ≡ within T.range (T.float x) }
 {
     let a = x.abs();
-    (a == 0.0) | ((LOW_F32 <= a) & (a <= HIGH_F32))
+    (a == T::zero()) | ((T::LOW <= a) & (a <= T::HIGH))
 }
 
 // Rounded once where all three are in range, and two steps elsewhere.
-fn fused_f32(x: f32, y: f32, z: f32) -> f32
-    ensures { result ≡ fused_within binary32 60 x y z }
+fn fused<T: Ranged>(x: T, y: T, z: T) -> T
+    ensures { T.float result ≡ fused_within T.format T.range (T.float x) (T.float y) (T.float z) }
 {
-    if within_f32(x) && within_f32(y) && within_f32(z) {
-        f32::mul_add(x, y, z)
+    if within(x) && within(y) && within(z) {
+        x.mul_add(y, z)
     } else {
-        two_step_f32(x, y, z)
-    }
-}
-
-// Rounded once where all three are in range, and two steps elsewhere.
-fn fused_f64(x: f64, y: f64, z: f64) -> f64
-    ensures { result ≡ fused_within binary64 400 x y z }
-{
-    if within_f64(x) && within_f64(y) && within_f64(z) {
-        f64::mul_add(x, y, z)
-    } else {
-        two_step_f64(x, y, z)
+        two_step(x, y, z)
     }
 }
 
@@ -152,6 +157,7 @@ fn fused_f64(x: f64, y: f64, z: f64) -> f64
 #[derive(Clone, Copy)]
 pub struct FmaBackend {}
 
+#[tactic(auto, using(crate::specs::Kept::once_within, crate::proofs::Standard::fused_inside))]
 impl ExpfBackend for FmaBackend {
     ghost meaning = { λ _. fusing };
 
@@ -162,7 +168,7 @@ impl ExpfBackend for FmaBackend {
         ensures law_kept { MulAdd binary32 60 x y z result }
         ensures ieee { FusedInside binary32 60 x y z result }
     {
-        fused_f32(x, y, z)
+        fused::<f32>(x, y, z)
     }
 
     fn fma(&self, x: f64, y: f64, z: f64) -> f64
@@ -170,7 +176,7 @@ impl ExpfBackend for FmaBackend {
         ensures law_kept { MulAdd binary64 400 x y z result }
         ensures ieee { FusedInside binary64 400 x y z result }
     {
-        fused_f64(x, y, z)
+        fused::<f64>(x, y, z)
     }
 
     fn roundf(&self, x: f32) -> f32
@@ -178,7 +184,7 @@ impl ExpfBackend for FmaBackend {
         ensures law_kept { Nearest binary32 x result }
         ensures ieee { TiesToAway binary32 x result }
     {
-        whole_f32(x)
+        GenericExpfBackend {}.roundf(x)
     }
 
     fn round(&self, x: f64) -> f64
@@ -186,6 +192,6 @@ impl ExpfBackend for FmaBackend {
         ensures law_kept { Nearest binary64 x result }
         ensures ieee { TiesToAway binary64 x result }
     {
-        whole_f64(x)
+        GenericExpfBackend {}.round(x)
     }
 }

@@ -1,5 +1,5 @@
 -- The whole number nearest to a float of either format, halves away from zero, by its pattern.
-use Rattle.std.proofs.Common.{◌≡◌, ℕ, zero, suc, ◌+◌, ◌-◌, ◌*◌, ◌/◌, ◌%◌, ◌^◌, ◌<◌, ◌≤◌, Bool, true, false, not, T, leb, pos, sym, refl, ap, ◌∙◌, subst, div-lt_iff_lt-mul, mul-pos, arith, le→leb, pow_pos, pow-add, shl_exact}
+use Rattle.std.proofs.Common.{◌≡◌, ℕ, zero, suc, ◌+◌, ◌-◌, ◌*◌, ◌/◌, ◌%◌, ◌^◌, ◌<◌, ◌≤◌, Bool, true, false, not, T, leb, pos, sym, refl, ap, ◌∙◌, subst, div-lt_iff_lt-mul, mul-pos, arith, le→leb, pow_pos, pow-add, shl_exact, Fits, w64}
 use native.Mathlib.Nat.{div-eq_of_lt}
 use lib.Ieee.{Float, Format, nan, inf, fin, binary32, binary64, prec, low, top, hid, up, down, round, fits, of_bits, of_int, in_float, to_bits, is_nan, nan_bits}
 use lib.Ieee.Fits.{down_pos, round_is, round-fits}
@@ -14,7 +14,7 @@ use Rattle.fast.proofs.Placing.{Under, Placed, less, more, placed, digits}
 
 -- the digits and a half, without what stands after the point
 abbrev pub count : Format → ℕ → ℕ → ℕ
-count f b s = (b % top f % hid f + hid f + (1 * 2 ^ (s - 1)) % (2 * top f)) / 2 ^ s
+count f b s = (b % top f % hid f + hid f + 1 * 2 ^ (s - 1) % 2 ^ 64) / 2 ^ s
 
 -- ---- halves away from zero
 
@@ -34,15 +34,18 @@ away_at f (fin false m e) s N D p v =
 
 -- ---- the count of whole numbers
 
-shift_is : (f : Format) (k : ℕ) → k ≤ prec f → (1 * 2 ^ k) % (2 * top f) ≡ 2 ^ k
-shift_is binary32 k h = shl_exact {a = 1} 1 k 32 (omega arith) (omega arith) ∙ omega arith
-shift_is binary64 k h = shl_exact {a = 1} 1 k 64 (omega arith) (omega arith) ∙ omega arith
+shift_is : (f : Format) (k : ℕ) → k ≤ prec f → 1 * 2 ^ k % 2 ^ 64 ≡ 2 ^ k
+shift_is f k h = let l : 1 + k ≤ 64 = room f k h in shl_exact {a = 1} 1 k 64 (omega arith) l ∙ omega arith
+  where
+    room : (f : Format) (k : ℕ) → k ≤ prec f → 1 + k ≤ 64
+    room binary32 k h = omega arith
+    room binary64 k h = omega arith
 
 count_is : (f : Format) (b k : ℕ) → k ≤ prec f → count f b (suc k) ≡ (hid f + b % hid f + 2 ^ k) / (2 * 2 ^ k)
 count_is f b k h =
     let d : 2 ^ suc k ≡ 2 * 2 ^ k = omega arith in
     let u : suc k - 1 ≡ k = omega arith in
-    let w : (1 * 2 ^ (suc k - 1)) % (2 * top f) ≡ 2 ^ k = ap (λ (n : ℕ). (1 * 2 ^ n) % (2 * top f)) u ∙ shift_is f k h in
+    let w : 1 * 2 ^ (suc k - 1) % 2 ^ 64 ≡ 2 ^ k = ap (λ (n : ℕ). 1 * 2 ^ n % 2 ^ 64) u ∙ shift_is f k h in
     λ i. ((digits f b).0 i + w i) / d i
 
 near : (q J H D : ℕ) → D ≡ J * (2 * H) → (2 * (q * J) + D) * (2 * H) ≡ (q + H) * (2 * D)
@@ -140,6 +143,15 @@ signed f b n W h =
     let s = leb (top f) b in
     signed_bits f s (b / top f) (to_bits f (of_int f (pos n))) (cast_bits f n h) (sign_of f b W)
     ∙ ap (float_with_sign s) (of_bits-to_bits f _ (cast_fits f n) ∙ cast_is f n) ∙ signed_round f s n 1
+
+-- a pattern with the sign of b put on, and that it has room in 64 bits
+pub signed_bound : (f : Format) (b p : ℕ) → b < 2 * top f → p < top f → b / top f * top f + p < 2 * top f
+signed_bound binary32 b p h l = omega arith
+signed_bound binary64 b p h l = omega arith
+
+pub word_bound : (f : Format) (p : ℕ) → p < 2 * top f → Fits w64 p
+word_bound binary32 p h = omega arith
+word_bound binary64 p h = omega arith
 
 pub signed_number : (f : Format) (b n : ℕ) → b < 2 * top f → n ≤ hid f → T (not (nan_bits f (b / top f * top f + to_bits f (of_int f (pos n)))))
 signed_number f b n W h =

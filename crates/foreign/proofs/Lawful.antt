@@ -1,6 +1,6 @@
 -- The choosing arithmetic is lawful.
 use Rattle.std.proofs.Common.{◌≡◌, ℕ, Bool, true, false, cond, sym, refl, ap, ◌∙◌, inl, inr, pos}
-use lib.Ieee.{Float, Format, fin, binary32, binary64, lt, eq}
+use lib.Ieee.{Float, Format, fin, binary32, binary64, lt, eq, of_int}
 use Rattle.std.specs.Float.{float_mul_add, float_round, float_with_sign}
 use Rattle.arithmetic.specs.Arithmetic.{Lawful, MulAdd, OneOrTwo, two_step}
 use Rattle.foreign.specs.Choosing.{choosing, by_order, plain_zero}
@@ -22,3 +22,9 @@ rounded_is f x y r z a l e = rw (z, sym (ap (λ (u : Float). lt u (fin false 1 (
 
 pub left_is : (f : Format) (x y : Float) → eq x zero ≡ false → y ≡ float_with_sign false x → lt y (fin false 1 (pos 22)) ≡ false → x ≡ plain_zero f x
 left_is f x y z a l = rw (z, sym (ap (λ (u : Float). lt u (fin false 1 (pos 22))) a) ∙ l) refl
+
+-- 2 ^ 22
+pub limit_is : (f : Format) → of_int f (pos 4194304) ≡ fin false 1 (pos 22)
+unfolding of_int
+limit_is binary32 = refl
+limit_is binary64 = refl

@@ -5,33 +5,29 @@
 ghost use Rattle.std.specs.Prelude.{◌≡◌, true, false, cond, refl};
 ghost use Rattle.std.proofs.Common.{inl, inr};
 ghost use Rattle.std.specs.Float.Ieee.{lt};
-ghost use Rattle.std.specs.Float.{float_mul_add, binary32, binary64};
+ghost use Rattle.std.specs.Float.{float_mul_add};
 ghost use Rattle.arithmetic.specs.Arithmetic.{OneOrTwo, two_step};
-ghost use Rattle.foreign.specs.Choosing.{choosing, plain_zero};
+ghost use Rattle.foreign.specs.Choosing.{by_order, choosing, plain_zero};
 ghost use Rattle.foreign.specs.Lawful.{lawful_where};
 
 use arithmetic::ExpfBackend;
+use fast::Patterned;
+use num_traits::Float;
 
-// Either zero gives +0, and from magnitude 2^22 on nothing is rounded.
-fn plain_f32(x: f32) -> f32
-    ensures { result ≡ plain_zero binary32 x }
+// Once where the first factor is below the second, and two steps elsewhere.
+fn by_order<T: Float>(x: T, y: T, z: T) -> T
+    ensures { T.float result ≡ by_order T.format (T.float x) (T.float y) (T.float z) }
 {
-    if x == 0.0 {
-        0.0
-    } else if x.abs() < 4194304.0 {
-        x.round()
-    } else {
-        x
-    }
+    if x < y { x.mul_add(y, z) } else { x * y + z }
 }
 
 // Either zero gives +0, and from magnitude 2^22 on nothing is rounded.
-fn plain_f64(x: f64) -> f64
-    ensures { result ≡ plain_zero binary64 x }
+fn plain<T: Patterned>(x: T) -> T
+    ensures { T.float result ≡ plain_zero T.format (T.float x) }
 {
-    if x == 0.0 {
-        0.0
-    } else if x.abs() < 4194304.0 {
+    if x == T::zero() {
+        T::zero()
+    } else if x.abs() < T::from_whole(1 << 22) {
         x.round()
     } else {
         x
@@ -41,25 +37,26 @@ fn plain_f64(x: f64) -> f64
 #[derive(Clone, Copy)]
 pub struct ChoosingBackend {}
 
+#[tactic(auto, using(crate::specs::Lawful::plain_zero_lem))]
 impl ExpfBackend for ChoosingBackend {
     ghost meaning = { λ _. choosing };
 
     ghost lawful = { λ b. lawful_where (λ f x y z. elim (lt x y) as (λ v. OneOrTwo f x y z (cond v (float_mul_add f x y z) (two_step f x y z))) [ true ↦ inl refl | false ↦ inr refl ]) };
 
     fn fmaf(&self, x: f32, y: f32, z: f32) -> f32 {
-        if x < y { x.mul_add(y, z) } else { x * y + z }
+        by_order(x, y, z)
     }
 
     fn fma(&self, x: f64, y: f64, z: f64) -> f64 {
-        if x < y { x.mul_add(y, z) } else { x * y + z }
+        by_order(x, y, z)
     }
 
     fn roundf(&self, x: f32) -> f32 {
-        plain_f32(x)
+        plain(x)
     }
 
     fn round(&self, x: f64) -> f64 {
-        plain_f64(x)
+        plain(x)
     }
 }
 

@@ -1,11 +1,6 @@
 use lib.Ieee.{binary64}
-use Rattle.arithmetic.specs.Kept.{two_steps}
 use Rattle.arithmetic.proofs.Standard.{two_operations}
 use Rattle.arithmetic.proofs.GenericExpfBackendExpfBackend.fma.Goals as goal
 
-pub returns : goal.returns
-returns c = record {
-  value = c.two_step_f64.ensures;
-  law_kept = rw c.two_step_f64.ensures (two_steps binary64 400 c.args.x c.args.y c.args.z);
-  ieee = rw c.two_step_f64.ensures (two_operations binary64 c.args.x c.args.y c.args.z);
-}
+pub returns-clause-ieee : goal.returns-clause-ieee
+returns-clause-ieee c = rw c.two_step.ensures (two_operations binary64 c.args.x c.args.y c.args.z)

@@ -1,6 +1,0 @@
-use lib.Ieee.{binary64}
-use Rattle.foreign.specs.Lawful.{plain_zero_lem}
-use Rattle.foreign.proofs.ChoosingBackendExpfBackend.round.Goals as goal
-
-pub returns : goal.returns
-returns c = record { value = c.plain_f64.ensures; law_kept = rw c.plain_f64.ensures (plain_zero_lem binary64 c.args.x) }

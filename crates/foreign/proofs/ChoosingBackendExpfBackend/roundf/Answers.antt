@@ -1,6 +1,0 @@
-use lib.Ieee.{binary32}
-use Rattle.foreign.specs.Lawful.{plain_zero_lem}
-use Rattle.foreign.proofs.ChoosingBackendExpfBackend.roundf.Goals as goal
-
-pub returns : goal.returns
-returns c = record { value = c.plain_f32.ensures; law_kept = rw c.plain_f32.ensures (plain_zero_lem binary32 c.args.x) }
