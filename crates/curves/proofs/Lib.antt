@@ -11,3 +11,4 @@ pub mod WholePower
 pub mod Law
 pub mod PowerRow
 pub mod Decimal
+pub mod Horner

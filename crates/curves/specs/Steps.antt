@@ -1,5 +1,5 @@
 -- What the curves share: patterns, table rows and polynomials.
-use Rattle.std.specs.Prelude.{ℕ, ◌+◌, ◌*◌, ◌%◌, ◌^◌, List, ℤ, pos, bit_and, from_bits, slice_index, to_bits, unsigned_abs, Float}
+use Rattle.std.specs.Prelude.{ℕ, ◌+◌, ◌*◌, ◌%◌, ◌^◌, List, [], ◌∷◌, ℤ, pos, bit_and, from_bits, slice_index, to_bits, unsigned_abs, Float}
 use Rattle.std.specs.Int.Signed.{shr_z}
 use Rattle.std.specs.Float.{binary32, binary64}
 use Rattle.std.specs.Float.Ieee.{mul}
@@ -35,6 +35,12 @@ poly6 fma x a0 a1 a2 a3 a4 a5 = fma (mul binary64 x x) (fma (mul binary64 x x) (
 -- the five steps of poly5, and two more
 abbrev pub poly7 : (Float → Float → Float → Float) → Float → Float → Float → Float → Float → Float → Float → Float → Float
 poly7 fma x a0 a1 a2 a3 a4 a5 a6 = fma x (fma x (fma x (fma x (fma x (fma x a6 a5) a4) a3) a2) a1) a0
+
+-- a₀ + x (a₁ + x (a₂ + ..)) by Horner's scheme, each step one multiply-add: at five and at seven coefficients it computes to poly5 and poly7
+abbrev pub horner : (Float → Float → Float → Float) → Float → List Float → Float
+horner fma x [] = double 0
+horner fma x (a ∷ []) = a
+horner fma x (a ∷ b ∷ rest) = fma x (horner fma x (b ∷ rest)) a
 
 -- the row of z among n, from 0 for a negative z too
 abbrev pub row_of : ℕ → ℤ → ℕ

@@ -7,7 +7,7 @@ ghost use Rattle.curves.specs.Exp10.{hi, lo, exp10_near_one, exp10_small_value, 
 ghost use Rattle.curves.specs.Split.{Exp10Splits};
 
 use crate::Curve;
-use crate::polyeval::{polyeval7, times_power};
+use crate::polyeval::{polyeval, times_power};
 use crate::power::add_power;
 use crate::tables::EXP_2_MID;
 use arithmetic::ExpfBackend;
@@ -66,22 +66,24 @@ pub fn exp_b_range_reduc<B: ExpfBackend>(arith: &B, x: f32) -> ExpBReduc
 fn exp10_small<B: ExpfBackend>(arith: &B, x: f32) -> f32
     ensures { result ≡ exp10_small_value (B.ExpfBackend.meaning arith.now) x }
 {
-    // 0x40026bb1bbb55516
-    const C0: f64 = 2.302585092994046;
-    // 0x40053524c73cfbf6
-    const C1: f64 = 2.6509490552411945;
-    // 0x4000470591de0b07
-    const C2: f64 = 2.0346785922896546;
-    // 0x3ff2bd760599f3a5
-    const C3: f64 = 1.17125513256108;
-    // 0x3fe142a001511a6f
-    const C4: f64 = 0.5393829370230615;
-    // 0x3fca7feffa781d53
-    const C5: f64 = 0.20702934007588655;
-    // 0x3fb16e53492c0f0e
-    const C6: f64 = 0.0680896810190996;
+    const COEFFICIENTS: [f64; 7] = [
+        // 0x40026bb1bbb55516
+        2.302585092994046,
+        // 0x40053524c73cfbf6
+        2.6509490552411945,
+        // 0x4000470591de0b07
+        2.0346785922896546,
+        // 0x3ff2bd760599f3a5
+        1.17125513256108,
+        // 0x3fe142a001511a6f
+        0.5393829370230615,
+        // 0x3fca7feffa781d53
+        0.20702934007588655,
+        // 0x3fb16e53492c0f0e
+        0.0680896810190996,
+    ];
     let xd = f32_to_f64_with_nan(x);
-    let p = polyeval7(arith, xd, C0, C1, C2, C3, C4, C5, C6);
+    let p = polyeval(arith, xd, COEFFICIENTS);
     narrow(arith.fma(p, xd, 1.0))
 }
 

@@ -7,7 +7,7 @@ ghost use Rattle.curves.specs.Entries.{M1Entry, M2Entry};
 ghost use Rattle.curves.specs.Split.{InRows, ExpSplits};
 
 use crate::Curve;
-use crate::polyeval::polyeval5;
+use crate::polyeval::polyeval;
 use crate::tables::{EXP_M1, EXP_M2};
 use arithmetic::ExpfBackend;
 use fast::{narrow, to_i32};
@@ -56,19 +56,22 @@ pub(crate) fn factors<B: ExpfBackend>(arith: &B, x: f32) -> ExpFactors
     ensures hi_value { result.hi ≡ row table_exp_m1 (row_of_whole (k (B.ExpfBackend.meaning arith.now) x)) }
     ensures mid_value { result.mid ≡ row table_exp_m2 (row_of_rest (k (B.ExpfBackend.meaning arith.now) x)) }
 {
-    // 0x3feffffffffff777
-    const C1: f64 = 0.9999999999997574;
-    // 0x3fe000000000071c
-    const C2: f64 = 0.5000000000002021;
-    // 0x3fc555566668e5e7
-    const C3: f64 = 0.16666679382778612;
-    // 0x3fa55555555ef243
-    const C4: f64 = 0.041666666671038154;
+    const COEFFICIENTS: [f64; 5] = [
+        1.0,
+        // 0x3feffffffffff777
+        0.9999999999997574,
+        // 0x3fe000000000071c
+        0.5000000000002021,
+        // 0x3fc555566668e5e7
+        0.16666679382778612,
+        // 0x3fa55555555ef243
+        0.041666666671038154,
+    ];
     let kf = arith.roundf(x * 128.0);
     let lo = f32_to_f64_with_nan(arith.fmaf(kf, -0.0078125, x));
     let (whole, rest) = rows(to_i32(f32_to_f64_with_nan(kf)));
     ExpFactors {
-        p: polyeval5(arith, lo, 1.0, C1, C2, C3, C4),
+        p: polyeval(arith, lo, COEFFICIENTS),
         hi: exp_m1(whole),
         mid: exp_m2(rest),
     }

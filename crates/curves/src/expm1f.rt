@@ -6,7 +6,7 @@ ghost use Rattle.curves.specs.Expm1.{expm1_small_value, expm1_tables_value, expm
 
 use crate::Curve;
 use crate::expf::{ExpFactors, factors};
-use crate::polyeval::polyeval7;
+use crate::polyeval::polyeval;
 use arithmetic::ExpfBackend;
 use fast::narrow;
 use std::num::f32_to_f64_with_nan;
@@ -14,22 +14,24 @@ use std::num::f32_to_f64_with_nan;
 fn expm1_small<B: ExpfBackend>(arith: &B, x: f32) -> f32
     ensures { result ≡ expm1_small_value (B.ExpfBackend.meaning arith.now) x }
 {
-    // 0x3fe0000000000000
-    const C0: f64 = 0.5;
-    // 0x3fc55555555557dd
-    const C1: f64 = 0.16666666666668464;
-    // 0x3fa55555555552fa
-    const C2: f64 = 0.04166666666666248;
-    // 0x3f8111110fcd58b7
-    const C3: f64 = 0.008333333296530616;
-    // 0x3f56c16c1717660b
-    const C4: f64 = 0.0013888888901106868;
-    // 0x3f2a0241f0006d62
-    const C5: f64 = 0.00019843153859331735;
-    // 0x3efa01e3f8d3c060
-    const C6: f64 = 2.480257494580395e-05;
+    const COEFFICIENTS: [f64; 7] = [
+        // 0x3fe0000000000000
+        0.5,
+        // 0x3fc55555555557dd
+        0.16666666666668464,
+        // 0x3fa55555555552fa
+        0.04166666666666248,
+        // 0x3f8111110fcd58b7
+        0.008333333296530616,
+        // 0x3f56c16c1717660b
+        0.0013888888901106868,
+        // 0x3f2a0241f0006d62
+        0.00019843153859331735,
+        // 0x3efa01e3f8d3c060
+        2.480257494580395e-05,
+    ];
     let xd = f32_to_f64_with_nan(x);
-    let p = polyeval7(arith, xd, C0, C1, C2, C3, C4, C5, C6);
+    let p = polyeval(arith, xd, COEFFICIENTS);
     narrow(arith.fma(p, xd * xd, xd))
 }
 
