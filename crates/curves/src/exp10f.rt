@@ -90,18 +90,20 @@ fn exp10_small<B: ExpfBackend>(arith: &B, x: f32) -> f32
 fn exp10_table<B: ExpfBackend>(arith: &B, x: f32) -> f32
     ensures { result ≡ exp10_table_value (B.ExpfBackend.meaning arith.now) x }
 {
-    // 0x40026bb1bbb55515
-    const C0: f64 = 2.3025850929940455;
-    // 0x40053524c73bd3ea
-    const C1: f64 = 2.650949055207538;
-    // 0x4000470591dff149
-    const C2: f64 = 2.0346785923449358;
-    // 0x3ff2bd7c0a9fbc4d
-    const C3: f64 = 1.1712608733175955;
-    // 0x3fe1429e74a98f43
-    const C4: f64 = 0.539382198196542;
+    const COEFFICIENTS: [f64; 5] = [
+        // 0x40026bb1bbb55515
+        2.3025850929940455,
+        // 0x40053524c73bd3ea
+        2.650949055207538,
+        // 0x4000470591dff149
+        2.0346785923449358,
+        // 0x3ff2bd7c0a9fbc4d
+        1.1712608733175955,
+        // 0x3fe1429e74a98f43
+        0.539382198196542,
+    ];
     let rr = exp_b_range_reduc(arith, x);
-    narrow(times_power(arith, rr.lo, rr.hi, C0, C1, C2, C3, C4))
+    narrow(times_power(arith, rr.lo, rr.hi, COEFFICIENTS))
 }
 
 #[derive(Clone, Copy)]
