@@ -6,7 +6,6 @@ pub mod Binary
 pub mod Checked
 pub mod Rules
 pub mod Shift
-pub mod Fields
 pub mod WholePower
 pub mod Law
 pub mod PowerRow

@@ -8,34 +8,10 @@ ghost use Rattle.curves.specs.Split.{Exp10Splits};
 
 use crate::Curve;
 use crate::polyeval::{polyeval, times_power};
-use crate::power::add_power;
-use crate::tables::EXP_2_MID;
+use crate::rows::{TwoIn32, scaled_row};
 use arithmetic::ExpfBackend;
 use fast::{narrow, to_i32};
 use std::num::{f32_to_f64_with_nan, f64_from_bits_with_nan};
-
-// The bits of 2^(i / 32), within one unit.
-fn exp_2_mid(i: usize) -> u64
-    requires { i < 32 }
-    ensures value { result ≡ slice_index table_exp2_mid i }
-    ensures near { MidEntry i (double result) }
-{
-    EXP_2_MID[i]
-}
-
-fn row_of_32(k: i32) -> usize
-    ensures value { result ≡ row_of 32 k }
-    ensures bound { result < 32 }
-{
-    (k & 31) as usize
-}
-
-// The bits of 2^(k / 32).
-fn exp10_row(k: i32) -> u64
-    ensures { result ≡ scaled_row table_exp2_mid 32 k }
-{
-    add_power(exp_2_mid(row_of_32(k)), k >> 5)
-}
 
 // 10^x is hi 10^lo.
 #[derive(Clone, Copy)]
@@ -58,7 +34,7 @@ pub fn exp_b_range_reduc<B: ExpfBackend>(arith: &B, x: f32) -> ExpBReduc
     let kd = arith.round(LOG2_B * xd);
     let first = arith.fma(kd, M_LOGB_2_HI, xd);
     ExpBReduc {
-        hi: f64_from_bits_with_nan(exp10_row(to_i32(kd))),
+        hi: f64_from_bits_with_nan(scaled_row::<TwoIn32, 5>(to_i32(kd))),
         lo: arith.fma(kd, M_LOGB_2_LO, first),
     }
 }

@@ -8,34 +8,11 @@ ghost use Rattle.curves.specs.Split.{Exp2Splits};
 
 use crate::Curve;
 use crate::polyeval::{polyeval6, times_power};
-use crate::power::{add_power, power_of_two, whole_power};
-use crate::tables::EXP2F_TABLE;
+use crate::power::{power_of_two, whole_power};
+use crate::rows::{TwoIn64, scaled_row};
 use arithmetic::ExpfBackend;
 use fast::{narrow, to_i32};
 use std::num::{f32_to_f64_with_nan, f64_from_bits_with_nan};
-
-// The bits of 2^(i / 64), within one unit.
-fn exp2f_entry(i: usize) -> u64
-    requires { i < 64 }
-    ensures value { result ≡ slice_index table_exp2f i }
-    ensures near { Exp2fEntry i (double result) }
-{
-    EXP2F_TABLE[i]
-}
-
-fn row_of_64(k: i32) -> usize
-    ensures value { result ≡ row_of 64 k }
-    ensures bound { result < 64 }
-{
-    (k & 63) as usize
-}
-
-// The bits of 2^(k / 64).
-fn exp2_row(k: i32) -> u64
-    ensures { result ≡ scaled_row table_exp2f 64 k }
-{
-    add_power(exp2f_entry(row_of_64(k)), k >> 6)
-}
 
 fn exp2_small<B: ExpfBackend>(arith: &B, x: f32) -> f32
     ensures { result ≡ exp2_small_value (B.ExpfBackend.meaning arith.now) x }
@@ -77,7 +54,7 @@ fn exp2_table<B: ExpfBackend>(arith: &B, x: f32) -> f32
     let xd = f32_to_f64_with_nan(x);
     let kd = arith.round(xd * 64.0);
     let lo = arith.fma(-0.015625, kd, xd);
-    let mh = f64_from_bits_with_nan(exp2_row(to_i32(kd)));
+    let mh = f64_from_bits_with_nan(scaled_row::<TwoIn64, 6>(to_i32(kd)));
     narrow(times_power(arith, lo, mh, COEFFICIENTS))
 }
 

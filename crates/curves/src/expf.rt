@@ -8,28 +8,10 @@ ghost use Rattle.curves.specs.Split.{InRows, ExpSplits};
 
 use crate::Curve;
 use crate::polyeval::polyeval;
-use crate::tables::{EXP_M1, EXP_M2};
+use crate::rows::{ExpRest, ExpWhole, Table};
 use arithmetic::ExpfBackend;
 use fast::{narrow, to_i32};
 use std::num::f32_to_f64_with_nan;
-
-// e^(i - 104), within one unit.
-fn exp_m1(i: usize) -> f64
-    requires { i < 207 }
-    ensures value { result ≡ row table_exp_m1 i }
-    ensures near { M1Entry i result }
-{
-    f64::from_bits(EXP_M1[i])
-}
-
-// e^(i / 128), within one unit.
-fn exp_m2(i: usize) -> f64
-    requires { i < 128 }
-    ensures value { result ≡ row table_exp_m2 i }
-    ensures near { M2Entry i result }
-{
-    f64::from_bits(EXP_M2[i])
-}
 
 // The rows of the two tables: the whole part and the remainder of (k + 104 * 128) / 128.
 fn rows(k: i32) -> (usize, usize)
@@ -72,8 +54,8 @@ pub(crate) fn factors<B: ExpfBackend>(arith: &B, x: f32) -> ExpFactors
     let (whole, rest) = rows(to_i32(f32_to_f64_with_nan(kf)));
     ExpFactors {
         p: polyeval(arith, lo, COEFFICIENTS),
-        hi: exp_m1(whole),
-        mid: exp_m2(rest),
+        hi: ExpWhole::row(whole),
+        mid: ExpRest::row(rest),
     }
 }
 
