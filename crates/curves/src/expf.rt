@@ -25,6 +25,12 @@ fn rows(k: i32) -> (usize, usize)
     ((at >> 7) as usize, (at & 0x7f) as usize)
 }
 
+// An x that no band before the tables holds.
+pub(crate) struct Reaching {
+    pub(crate) x: f32,
+    ghost reaches: { ∥ ExpReaches x ∥₁ },
+}
+
 // e^x as a product: the polynomial of lo, and the two rows.
 pub(crate) struct ExpFactors {
     pub(crate) p: f64,
@@ -32,11 +38,10 @@ pub(crate) struct ExpFactors {
     pub(crate) mid: f64,
 }
 
-pub(crate) fn factors<B: ExpfBackend>(arith: &B, x: f32) -> ExpFactors
-    requires { ExpReaches x }
-    ensures p_value { result.p ≡ exp_poly (B.ExpfBackend.meaning arith.now) x }
-    ensures hi_value { result.hi ≡ row table_exp_m1 (row_of_whole (k (B.ExpfBackend.meaning arith.now) x)) }
-    ensures mid_value { result.mid ≡ row table_exp_m2 (row_of_rest (k (B.ExpfBackend.meaning arith.now) x)) }
+pub(crate) fn factors<B: ExpfBackend>(arith: &B, input: Reaching) -> ExpFactors
+    ensures p_value { result.p ≡ exp_poly (B.ExpfBackend.meaning arith.now) input.x }
+    ensures hi_value { result.hi ≡ row table_exp_m1 (row_of_whole (k (B.ExpfBackend.meaning arith.now) input.x)) }
+    ensures mid_value { result.mid ≡ row table_exp_m2 (row_of_rest (k (B.ExpfBackend.meaning arith.now) input.x)) }
 {
     const COEFFICIENTS: [f64; 5] = [
         1.0,
@@ -49,6 +54,7 @@ pub(crate) fn factors<B: ExpfBackend>(arith: &B, x: f32) -> ExpFactors
         // 0x3fa55555555ef243
         0.041666666671038154,
     ];
+    let Reaching { x } = input;
     let kf = arith.roundf(x * 128.0);
     let lo = f32_to_f64_with_nan(arith.fmaf(kf, -0.0078125, x));
     let (whole, rest) = rows(to_i32(f32_to_f64_with_nan(kf)));
@@ -59,11 +65,10 @@ pub(crate) fn factors<B: ExpfBackend>(arith: &B, x: f32) -> ExpFactors
     }
 }
 
-fn exp_tables<B: ExpfBackend>(arith: &B, x: f32) -> f32
-    requires { ExpReaches x }
-    ensures { result ≡ exp_tables_value (B.ExpfBackend.meaning arith.now) x }
+fn exp_tables<B: ExpfBackend>(arith: &B, input: Reaching) -> f32
+    ensures { result ≡ exp_tables_value (B.ExpfBackend.meaning arith.now) input.x }
 {
-    let ExpFactors { p, hi, mid } = factors(arith, x);
+    let ExpFactors { p, hi, mid } = factors(arith, input);
     narrow(p * hi * mid)
 }
 
@@ -91,7 +96,7 @@ impl Curve for Exp {
         } else if p < 0x8000_0000 && p >= Self::OVERFLOW_LIMIT {
             f32::INFINITY
         } else {
-            exp_tables(arith, x)
+            exp_tables(arith, Reaching { x })
         }
     }
 }

@@ -5,7 +5,7 @@ ghost use Rattle.curves.specs.Exp.{ExpReaches};
 ghost use Rattle.curves.specs.Expm1.{expm1_small_value, expm1_tables_value, expm1_value};
 
 use crate::Curve;
-use crate::expf::{ExpFactors, factors};
+use crate::expf::{ExpFactors, Reaching, factors};
 use crate::polyeval::polyeval;
 use arithmetic::ExpfBackend;
 use fast::narrow;
@@ -35,11 +35,10 @@ fn expm1_small<B: ExpfBackend>(arith: &B, x: f32) -> f32
     narrow(arith.fma(p, xd * xd, xd))
 }
 
-fn expm1_tables<B: ExpfBackend>(arith: &B, x: f32) -> f32
-    requires { ExpReaches x }
-    ensures { result ≡ expm1_tables_value (B.ExpfBackend.meaning arith.now) x }
+fn expm1_tables<B: ExpfBackend>(arith: &B, input: Reaching) -> f32
+    ensures { result ≡ expm1_tables_value (B.ExpfBackend.meaning arith.now) input.x }
 {
-    let ExpFactors { p, hi, mid } = factors(arith, x);
+    let ExpFactors { p, hi, mid } = factors(arith, input);
     narrow(arith.fma(p * hi, mid, -1.0))
 }
 
@@ -83,7 +82,7 @@ impl Curve for Expm1 {
         } else if size < Expm1::SMALL_LIMIT {
             expm1_small(arith, x)
         } else {
-            expm1_tables(arith, x)
+            expm1_tables(arith, Reaching { x })
         }
     }
 }

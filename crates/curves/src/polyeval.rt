@@ -20,12 +20,11 @@ pub fn polyeval6<B: ExpfBackend>(arith: &B, x: f64, a: [f64; 6]) -> f64
     ensures { result ≡ poly6_of (B.ExpfBackend.meaning arith.now).fma x a }
 {
     let [a0, a1, a2, a3, a4, a5] = a;
-    let pairs = [
-        arith.fma(x, a1, a0),
-        arith.fma(x, a3, a2),
-        arith.fma(x, a5, a4),
-    ];
-    polyeval(arith, x * x, pairs)
+    let x2 = x * x;
+    let high = arith.fma(x, a5, a4);
+    let middle = arith.fma(x, a3, a2);
+    let low = arith.fma(x, a1, a0);
+    polyeval(arith, x2, [low, middle, high])
 }
 
 // mh (1 + c0 x + .. + c4 x^5), the last sum by one multiply-add.
