@@ -1,8 +1,5 @@
 // exp10: x is reduced to lo by whole multiples of log10 2 / 32, and 10^x is a power of two, by a table, times a polynomial of lo.
-ghost use Rattle.std.specs.Prelude.{◌≡◌, ◌<◌, slice_index};
-ghost use Rattle.curves.specs.Tables.{table_exp2_mid};
-ghost use Rattle.curves.specs.Steps.{double, row_of, scaled_row};
-ghost use Rattle.curves.specs.Entries.{MidEntry};
+ghost use Rattle.std.specs.Prelude.{◌≡◌};
 ghost use Rattle.curves.specs.Exp10.{hi, lo, exp10_near_one, exp10_small_value, exp10_table_value, exp10_value};
 ghost use Rattle.curves.specs.Split.{Exp10Splits};
 

@@ -1,9 +1,6 @@
 // exp2: x is split as k / 64 + lo, and 2^x is 2^(k / 64), by a table and a whole power of two, times a polynomial of lo.
-ghost use Rattle.std.specs.Prelude.{◌≡◌, ◌<◌, slice_index};
-ghost use Rattle.curves.specs.Tables.{table_exp2f};
-ghost use Rattle.curves.specs.Steps.{double, row_of, scaled_row};
+ghost use Rattle.std.specs.Prelude.{◌≡◌};
 ghost use Rattle.curves.specs.Exp2.{exp2_small_value, exp2_table_value, exp2_value};
-ghost use Rattle.curves.specs.Entries.{Exp2fEntry};
 ghost use Rattle.curves.specs.Split.{Exp2Splits};
 
 use crate::Curve;

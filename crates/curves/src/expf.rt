@@ -3,7 +3,6 @@ ghost use Rattle.std.specs.Prelude.{◌≡◌, ◌<◌};
 ghost use Rattle.curves.specs.Tables.{table_exp_m1, table_exp_m2};
 ghost use Rattle.curves.specs.Steps.{row};
 ghost use Rattle.curves.specs.Exp.{k, row_of_whole, row_of_rest, exp_poly, exp_tables_value, exp_value, ExpReaches};
-ghost use Rattle.curves.specs.Entries.{M1Entry, M2Entry};
 ghost use Rattle.curves.specs.Split.{InRows, ExpSplits};
 
 use crate::Curve;

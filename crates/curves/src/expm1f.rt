@@ -1,7 +1,5 @@
 // expm1: e^x - 1, by a polynomial near zero, and elsewhere by exp's split, rows and polynomial less one.
 ghost use Rattle.std.specs.Prelude.{◌≡◌};
-ghost use Rattle.curves.specs.Steps.{single};
-ghost use Rattle.curves.specs.Exp.{ExpReaches};
 ghost use Rattle.curves.specs.Expm1.{expm1_small_value, expm1_tables_value, expm1_value};
 
 use crate::Curve;
@@ -42,17 +40,13 @@ fn expm1_tables<B: ExpfBackend>(arith: &B, input: Reaching) -> f32
     narrow(arith.fma(p * hi, mid, -1.0))
 }
 
-// The lowest value, -1.
-fn minus_one() -> f32
-    ensures { result ≡ single 0xbf80_0000 }
-{
-    -1.0
-}
-
 #[derive(Clone, Copy)]
 pub struct Expm1 {}
 
 impl Expm1 {
+    // 0xbf800000
+    const LOWEST: f32 = -1.0;
+
     // below this pattern, with no sign, a polynomial serves
     const SMALL_LIMIT: u32 = 0x3d80_0000;
 }
@@ -76,7 +70,7 @@ impl Curve for Expm1 {
         if size < Self::NEAR_ONE_LIMIT {
             x
         } else if p >= Self::ZERO_LIMIT {
-            minus_one()
+            Expm1::LOWEST
         } else if p < 0x8000_0000 && p >= Self::OVERFLOW_LIMIT {
             f32::INFINITY
         } else if size < Expm1::SMALL_LIMIT {
