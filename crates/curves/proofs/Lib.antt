@@ -5,7 +5,6 @@ pub mod Natural
 pub mod Binary
 pub mod Checked
 pub mod Rules
-pub mod Shift
 pub mod WholePower
 pub mod Law
 pub mod PowerRow

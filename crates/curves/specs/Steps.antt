@@ -41,7 +41,7 @@ poly6_of fma x _ = double 0
 abbrev pub poly7 : (Float → Float → Float → Float) → Float → Float → Float → Float → Float → Float → Float → Float → Float
 poly7 fma x a0 a1 a2 a3 a4 a5 a6 = fma x (fma x (fma x (fma x (fma x (fma x a6 a5) a4) a3) a2) a1) a0
 
--- a₀ + x (a₁ + x (a₂ + ..)) by Horner's scheme, each step one multiply-add: at five and at seven coefficients it computes to poly5 and poly7
+-- a₀ + x (a₁ + x (a₂ + ..)) by Horner's scheme, each step one multiply-add, and 0 of no coefficient: of five and of seven it computes to poly5 and poly7
 abbrev pub horner : (Float → Float → Float → Float) → Float → List Float → Float
 horner fma x [] = double 0
 horner fma x (a ∷ []) = a

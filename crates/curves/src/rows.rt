@@ -22,6 +22,7 @@ pub(crate) trait Table {
         ensures value { result ≡ slice_index table i }
         ensures near { near i (double result) };
 
+    // The number of those bits.
     final fn row(i: usize) -> f64
         requires { i < rows }
         ensures value { result ≡ row table i }
