@@ -17,12 +17,13 @@ pub(crate) trait Table {
     // what an entry stands for, within one unit
     ghost near: { ℕ → Float → Type 0 };
 
+    // The bits of row i.
     fn entry(i: usize) -> u64
         requires { i < rows }
         ensures value { result ≡ slice_index table i }
         ensures near { near i (double result) };
 
-    // The number of those bits.
+    // The same row as a number.
     final fn row(i: usize) -> f64
         requires { i < rows }
         ensures value { result ≡ row table i }
