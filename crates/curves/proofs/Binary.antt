@@ -13,7 +13,7 @@ use Rattle.curves.specs.Steps.{double}
 use Rattle.curves.specs.Exp2.{kd, k, lo, Exp2Reaches}
 use Rattle.curves.specs.Split.{Splits, InPowers, Exp2Splits}
 use Rattle.curves.proofs.Reduction.{Input, scaled, scaled_small, rounded, k_is, k_below, lo_is_turned, left_over, splits, step}
-use Rattle.curves.proofs.Sizes.{pattern_of, below, above, pattern_lt, pattern_is, magnitude_is}
+use Rattle.curves.proofs.Sizes.{pattern_of, under, below, above, pattern_lt, pattern_is, magnitude_is}
 use Rattle.curves.proofs.Natural.{kf_within}
 
 -- an f32 by its size in smallest values: above 1 / 32, and 64 times it below b + 1/2
@@ -126,15 +126,12 @@ exp2_wide_lem s m e f t =
       X = u.n;
       is = u.is;
       least = le_trans (lit≤ {m = 2 ^ 144} {n = 8388608 * 2 ^ 121} tt) (above u.n 121 8388608 (lit≤ tt) (lit≤ tt) (omega arith));
-      most = limit s u.n l (subst (λ (n : ℕ). (n < 0x4300_0000) ⊎ ((0x8000_0000 ≤ n) × (n ≤ 0xc315_0000))) p t.limits);
+      most = limit s u.n (under s (pattern_of u.n) 0x4300_0000 0xc315_0001 l (lit≤ tt) (⊎_elim inl (λ h. inr (h.0, omega (arith, h.1))) (subst (λ (n : ℕ). (n < 0x4300_0000) ⊎ ((0x8000_0000 ≤ n) × (n ≤ 0xc315_0000))) p t.limits)));
     }
   where
-    limit : (s : Bool) (n : ℕ) → pattern_of n < 2 ^ 31
-        → (cond s 2147483648 0 + pattern_of n < 0x4300_0000) ⊎ ((0x8000_0000 ≤ cond s 2147483648 0 + pattern_of n) × (cond s 2147483648 0 + pattern_of n ≤ 0xc315_0000)) → 128 * n < (2 * most_k s + 1) * 2 ^ 149
-    limit false n l (inl h) = let b = below n 133 8388608 (lit≤ tt) (lit≤ tt) (omega arith) in omega arith
-    limit false n l (inr h) = let a = h.0 in absurd (omega arith)
-    limit true n l (inl h) = absurd (omega arith)
-    limit true n l (inr h) = let a = h.1 in let b = below n 133 9764865 (lit≤ tt) (lit≤ tt) (omega arith) in omega arith
+    limit : (s : Bool) (n : ℕ) → pattern_of n < cond s 0x4315_0001 0x4300_0000 → 128 * n < (2 * most_k s + 1) * 2 ^ 149
+    limit false n l = let b = below n 133 8388608 (lit≤ tt) (lit≤ tt) l in omega arith
+    limit true n l = let b = below n 133 9764865 (lit≤ tt) (lit≤ tt) l in omega arith
 
 exp2_made : (a : Arithmetic) → Lawful a → (s : Bool) (m : ℕ) (e : ℤ) (f : T (fits binary32 (fin s m e))) (w : Wide (most_k s) m e) → Made (most_k s) a s m e (units binary64 s m e (fits_widens (fin s m e) f)).n
 exp2_made a v false m e f w = made 8192 (lit≤ tt) a v false m e f w

@@ -45,7 +45,7 @@ use Rattle.curves.specs.Split.{InPowers, Reduces, Exp10Splits}
 use Rattle.curves.proofs.Law.{finite_in, fma_law, in_range, near_whole}
 use Rattle.curves.proofs.PowerRow.{mid_from_one, scaled_row_lem}
 use Rattle.curves.proofs.Reduction.{sign_of}
-use Rattle.curves.proofs.Sizes.{pattern_of, below, above, pattern_lt, pattern_is, magnitude_is}
+use Rattle.curves.proofs.Sizes.{pattern_of, under, below, above, pattern_lt, pattern_is, magnitude_is}
 
 -- ---- the constants
 constants_finite : T (finite log2_ten) × T (finite minus_log_hi) × T (finite minus_log_lo)
@@ -342,15 +342,12 @@ input (fin s m e) f t =
       how = number_of s m e u.n u.is;
       is_finite = tt;
       least = le_trans (lit≤ {m = 2 ^ 144} {n = 8388608 * 2 ^ 121} tt) (above u.n 121 8388608 (lit≤ tt) (lit≤ tt) (omega arith));
-      most = top s u.n l (subst (λ (n : ℕ). (n < 0x421a_209b) ⊎ ((0x8000_0000 ≤ n) × (n < 0xc234_9e36))) p t.limits);
+      most = top s u.n (under s (pattern_of u.n) 0x421a_209b 0xc234_9e36 l (lit≤ tt) (subst (λ (n : ℕ). (n < 0x421a_209b) ⊎ ((0x8000_0000 ≤ n) × (n < 0xc234_9e36))) p t.limits));
     }
   where
-    top : (s : Bool) (n : ℕ) → pattern_of n < 2 ^ 31
-        → (cond s 2147483648 0 + pattern_of n < 0x421a_209b) ⊎ ((0x8000_0000 ≤ cond s 2147483648 0 + pattern_of n) × (cond s 2147483648 0 + pattern_of n < 0xc234_9e36)) → n < limit s * 2 ^ 131
-    top false n l (inl h) = below n 131 10100891 (lit≤ tt) (lit≤ tt) (omega arith)
-    top false n l (inr h) = let a = h.0 in absurd (omega arith)
-    top true n l (inl h) = absurd (omega arith)
-    top true n l (inr h) = let a = h.1 in below n 131 11836982 (lit≤ tt) (lit≤ tt) (omega arith)
+    top : (s : Bool) (n : ℕ) → pattern_of n < cond s 0x4234_9e36 0x421a_209b → n < limit s * 2 ^ 131
+    top false n l = below n 131 10100891 (lit≤ tt) (lit≤ tt) l
+    top true n l = below n 131 11836982 (lit≤ tt) (lit≤ tt) l
 
 module _ (x : Float) (i : Input x) where
   pub input_away : Away 5 (val x)

@@ -5,6 +5,7 @@ use lib.Ieee.Fits.{down_pos}
 use lib.Ieee.Scale.{finite}
 use borrow.Author.Differences.{ints}
 use std.Quotient.{cls}
+use Rattle.std.proofs.Math.Nat.{zero-mul}
 use Rattle.std.specs.Float as Floats
 use Rattle.exact.specs.Fraction.{Fraction, integer, dyadic, apart, ◌≼◌}
 use Rattle.exact.proofs.Rational.{ℚ, is, ◌-q◌, ofℤ}
@@ -41,13 +42,10 @@ ranged_in f n (inf s) r = absurd r
 ranged_in f n (fin s m e) r = (
   r.0,
   elim r.1 [
-    | inl z ↦ within_zero (suc n) s m e (ap (λ (k : ℕ). k * up e) z ∙ nil (up e))
+    | inl z ↦ within_zero (suc n) s m e (ap (λ (k : ℕ). k * up e) z ∙ zero-mul (up e))
     | inr w ↦ within_range n s m e w.0 w.1
   ],
 )
-  where
-    nil : (u : ℕ) → 0 * u ≡ 0
-    nil u = omega arith
 
 permitted : {f : Format} {x y z r : Float} → OneOrTwo f x y z r → Permitted f x y z r
 permitted (inl e) = once e

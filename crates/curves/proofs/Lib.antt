@@ -5,9 +5,8 @@ pub mod Natural
 pub mod Binary
 pub mod Checked
 pub mod Rules
-pub mod Shift
-pub mod Fields
 pub mod WholePower
 pub mod Law
 pub mod PowerRow
 pub mod Decimal
+pub mod Horner

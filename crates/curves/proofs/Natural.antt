@@ -2,6 +2,7 @@
 use Rattle.std.proofs.Common.{◌≡◌, ℕ, zero, suc, ◌+◌, ◌-◌, ◌*◌, ◌/◌, ◌^◌, ◌<◌, ◌≤◌, Bool, true, false, cond, T, ◌⊎◌, ℤ, pos, negsuc, ◌+ℤ◌, neg_ℤ, sym, refl, ap, ◌∙◌, subst, inl, inr, ⊎_elim, le_trans, mul-le-mul_right, eq-zero-or-pos, mul-le-mul_left, le_of_mul-le-mul_right, arith, lit≤, pow_pos}
 use lib.Ieee.{Float, nan, inf, fin, Format, binary32, low, up, down, fits, mul, neg, of_bits, to_bits, is_nan, lt, le, eq}
 use borrow.Author.Differences.{ints}
+use Rattle.std.proofs.Math.Nat.{zero-mul}
 use Rattle.std.specs.Float.{float_with_sign}
 use Rattle.rounding.specs.Values.{signed}
 use Rattle.arithmetic.specs.Arithmetic.{Arithmetic, Lawful, Nearest, RoundsAway, OneOrTwo, within}
@@ -12,7 +13,7 @@ use Rattle.curves.specs.Steps.{single}
 use Rattle.curves.specs.Exp.{kf, k, lo, ExpReaches}
 use Rattle.curves.specs.Split.{Splits, InRows, ExpSplits}
 use Rattle.curves.proofs.Reduction.{Input, Rounded, scaled, scaled_small, rounded, k_is, k_below, lo_is, left_over, splits, step}
-use Rattle.curves.proofs.Sizes.{pattern_of, below, above, pattern_lt, pattern_is, magnitude_is}
+use Rattle.curves.proofs.Sizes.{pattern_of, under, below, above, pattern_lt, pattern_is, magnitude_is}
 
 -- an f32 by its size in smallest values: from 2 ^ -60 up, and below q / 2 ^ 17
 pub record Sized (q m : ℕ) (e : ℤ) : Type 0 where
@@ -63,15 +64,12 @@ pub kf_within : (f : Format) (j : ℕ) (s : Bool) (X b : ℕ) (kd : Float) (n : 
 kf_within f j s X b kd n r l h =
     let K = halves (X * 2 ^ j) (2 ^ low f) in
     subst (λ (y : Float). T (within (suc n) y)) (sym r.is) (elim (eq-zero-or-pos K) [
-      | inl z ↦ within_zero (suc n) r.sign r.m r.e (r.size ∙ ap (λ (x : ℕ). x * down r.e) z ∙ nil (down r.e))
+      | inl z ↦ within_zero (suc n) r.sign r.m r.e (r.size ∙ ap (λ (x : ℕ). x * down r.e) z ∙ zero-mul (down r.e))
       | inr p ↦
           within_range n r.sign r.m r.e (low_end (r.m * up r.e) K (down r.e) (2 ^ suc n) r.size p (pow_pos (suc n)))
           (high_end (r.m * up r.e) K (down r.e) (2 ^ suc n) r.size (le_trans l h))
     ])
   where
-    nil : (d : ℕ) → 0 * d ≡ 0
-    nil d = omega arith
-
     low_end : (a k d p : ℕ) → a ≡ k * d → 0 < k → 0 < p → d ≤ a * p
     low_end a k d p e q r =
         let g : 1 * d ≤ k * d = mul-le-mul_right d q in
@@ -155,15 +153,9 @@ exp_sized s m e f t =
     let q = magnitude_is s m e u.n u.is u.holds in
     let l = pattern_lt u.n u.holds in
     let past : 0x3280_0000 < pattern_of u.n = subst (λ (n : ℕ). 0x3280_0000 < n) q t.past_one in
-    go s u past (limit s (pattern_of u.n) l (subst (λ (n : ℕ). (n < 0x42b2_0000) ⊎ ((0x8000_0000 ≤ n) × (n < 0xc2cf_f1b5))) p t.limits))
+    go s u past (under s (pattern_of u.n) 0x42b2_0000 0xc2cf_f1b5 l (lit≤ tt) (subst (λ (n : ℕ). (n < 0x42b2_0000) ⊎ ((0x8000_0000 ≤ n) × (n < 0xc2cf_f1b5))) p t.limits))
   where
-    limit : (s : Bool) (n : ℕ) → n < 2 ^ 31 → (cond s 2147483648 0 + n < 0x42b2_0000) ⊎ ((0x8000_0000 ≤ cond s 2147483648 0 + n) × (cond s 2147483648 0 + n < 0xc2cf_f1b5)) → n < 1107296256 + top_of s
-    limit false n l (inl h) = omega arith
-    limit false n l (inr h) = let a = h.0 in absurd (omega arith)
-    limit true n l (inl h) = absurd (omega arith)
-    limit true n l (inr h) = let b = h.1 in omega arith
-
-    go : (s : Bool) (u : Units binary32 m e) → 0x3280_0000 < pattern_of u.n → pattern_of u.n < 1107296256 + top_of s → Sized (top_of s) m e
+    go : (s : Bool) (u : Units binary32 m e) → 0x3280_0000 < pattern_of u.n → pattern_of u.n < cond s 0x42cf_f1b5 0x42b2_0000 → Sized (top_of s) m e
     go false u a b = sized 11665408 (lit≤ tt) (lit≤ tt) false m e u a b
     go true u a b = sized 13627829 (lit≤ tt) (lit≤ tt) true m e u a b
 

@@ -1,13 +1,12 @@
 -- A table row from 1 to below 2 with a whole power of two added into its exponent's field is the row times that power.
-use Rattle.std.proofs.Common.{◌≡◌, ℕ, suc, ◌+◌, ◌-◌, ◌*◌, ◌/◌, ◌%◌, ◌^◌, ◌<◌, ◌≤◌, Bool, false, not, T, leb, List, length, get_or, ℤ, pos, negsuc, nat_abs, sym, refl, ap, ◌∙◌, subst, arith, leb→le, pow_pos, pow-add}
-use lib.Dec.{not_T}
+use Rattle.std.proofs.Common.{◌≡◌, ℕ, suc, ◌+◌, ◌-◌, ◌*◌, ◌/◌, ◌%◌, ◌^◌, ◌<◌, ◌≤◌, Bool, false, T, leb, List, length, get_or, ℤ, pos, negsuc, nat_abs, sym, refl, ap, ◌∙◌, subst, arith, leb→le, pow_pos, pow-add}
 use lib.Signed.{shr_z}
 use lib.Ieee.{Float, binary64, of_bits}
-use lib.Ieee.Bits.{is_false}
 use lib.Ieee.Exact.{HasValue}
 use lib.Ieee.Scale.{finite}
 use std.Quotient.{cls}
 use Rattle.std.specs.Int.{int_rem_euclid}
+use Rattle.std.proofs.lemmas.Bool.{lt-leb}
 use Rattle.exact.proofs.Rational.{ℚ, is, ◌*q◌}
 use Rattle.rounding.specs.Units.{power}
 use Rattle.rounding.proofs.Fractions.{frac}
@@ -49,11 +48,8 @@ has x f h k =
     let N = suc x * 2 ^ 52 + f in
     let w = parts x f h k in
     let v = pattern_normal binary64 N x w.0 (omega arith) in
-    subst (λ (s : Bool). HasValue (of_bits binary64 N) s ((2 ^ 52 + f) * 2 ^ x) (2 ^ 1074)) (is_false (leb (2 ^ 63) N) (below N w.2))
+    subst (λ (s : Bool). HasValue (of_bits binary64 N) s ((2 ^ 52 + f) * 2 ^ x) (2 ^ 1074)) (lt-leb (2 ^ 63) N w.2)
     (subst (λ (r : ℕ). HasValue (of_bits binary64 N) (leb (2 ^ 63) N) ((2 ^ 52 + r) * 2 ^ x) (2 ^ 1074)) w.1 v)
-  where
-    below : (N : ℕ) → N < 2 ^ 63 → T (not (leb (2 ^ 63) N))
-    below N h = not_T (leb (2 ^ 63) N) (λ t. let k = leb→le (2 ^ 63) N t in absurd (omega arith))
 
 -- the row itself
 row_bits : (b : ℕ) → FromOne b → b ≡ suc 1022 * 2 ^ 52 + digits b

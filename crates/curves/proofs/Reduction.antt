@@ -7,6 +7,7 @@ use lib.Ieee.Exact.{HasValue}
 use lib.Ieee.Fits.{down_pos, mul-fits}
 use lib.Ieee.Scale.{round_same}
 use borrow.Author.Differences.{ints}
+use Rattle.std.proofs.Math.Nat.{zero-mul}
 use Rattle.std.specs.Float.{float_is_finite}
 use Rattle.exact.specs.Fraction.{Same, whole, integer, dyadic, times, opposite, difference, absolute, ◌≼◌}
 use Rattle.exact.proofs.Ring.{◌⊕◌, ◌⊗◌, ⊝, norm}
@@ -40,6 +41,9 @@ pub record Input (f : Format) (j : ℕ) (b m : ℕ) (e : ℤ) : Type 0 where
   pub up_to : 2 * (X * 2 ^ j) < (2 * b + 1) * 2 ^ low f
   pub few : b < 2 ^ 20
   pub room : j + prec f ≤ low f
+
+roomy : (f : Format) (j : ℕ) → j + prec f ≤ low f → j ≤ low f
+roomy f j h = omega arith
 
 abbrev pub scaled : Format → ℕ → Bool → ℕ → ℤ → Float
 scaled f j s m e = mul f (fin s m e) (fin false 1 (pos j))
@@ -204,11 +208,8 @@ zero_sum f true false X L p = ap (λ (b : Bool). cond b (round f false (X - 0) L
 canonical : (f : Format) (t s : Bool) (K u X L : ℕ) → 0 < X → (t ≡ s) ⊎ (K ≡ 0) → sum f (not t) (K * u) s X L ≡ sum f (not s) (K * u) s X L
 canonical f t s K u X L p (inl e) = ap (λ (b : Bool). sum f (not b) (K * u) s X L) e
 canonical f t s K u X L p (inr z) =
-    let n : K * u ≡ 0 = ap (λ (k : ℕ). k * u) z ∙ nil u in
+    let n : K * u ≡ 0 = ap (λ (k : ℕ). k * u) z ∙ zero-mul u in
     ap (λ (a : ℕ). sum f (not t) a s X L) n ∙ zero_sum f (not t) s X L p ∙ sym (zero_sum f (not s) s X L p) ∙ ap (λ (a : ℕ). sum f (not s) a s X L) (sym n)
-  where
-    nil : (u : ℕ) → 0 * u ≡ 0
-    nil u = omega arith
 
 -- kf first: exp and expm1
 pub lo_is : (f : Format) (j b : ℕ) (s : Bool) (m : ℕ) (e : ℤ) (i : Input f (suc j) b m e) (kf r : Float) → Rounded f (suc j) s i.X kf → OneOrTwo f kf (step j) (fin s m e) r → r ≡ left_over f (suc j) s i.X
@@ -216,7 +217,7 @@ unfolding mul
 lo_is f j b s m e i kf r k law =
     let K = halves (i.X * 2 ^ suc j) (2 ^ low f) in
     let P = K * 2 ^ (low f - suc j) in
-    let fine : 2 ^ low f ≡ 2 ^ (low f - suc j) * 2 ^ suc j = pow_split (low f) (suc j) (roomy i.room) in
+    let fine : 2 ^ low f ≡ 2 ^ (low f - suc j) * 2 ^ suc j = pow_split (low f) (suc j) (roomy f (suc j) i.room) in
     let c = times_step (k.m * up k.e) 1 (2 ^ (low f - suc j)) (2 ^ suc j) (2 ^ low f) K (down k.e) fine k.size in
     mul_add_sum f k.sign k.m k.e true 1 (negsuc j) s m e r P i.X (2 ^ low f) (pow_pos (low f)) c
     (subst (λ (y : Float). HasValue y (unlike k.sign true) P (2 ^ low f))
@@ -225,9 +226,6 @@ lo_is f j b s m e i kf r k law =
     i.is (subst (λ (y : Float). OneOrTwo f y (step j) (fin s m e) r) k.is law)
     ∙ ap (λ (t : Bool). sum f t P s i.X (2 ^ low f)) (flips k.sign)
     ∙ canonical f k.sign s K (2 ^ (low f - suc j)) i.X (2 ^ low f) i.some k.like_x
-  where
-    roomy : suc j + prec f ≤ low f → suc j ≤ low f
-    roomy h = omega arith
 
 -- kf second: exp2
 pub lo_is_turned : (f : Format) (j b : ℕ) (s : Bool) (m : ℕ) (e : ℤ) (i : Input f (suc j) b m e) (kf r : Float) → Rounded f (suc j) s i.X kf → OneOrTwo f (step j) kf (fin s m e) r → r ≡ left_over f (suc j) s i.X
@@ -235,7 +233,7 @@ unfolding mul
 lo_is_turned f j b s m e i kf r k law =
     let K = halves (i.X * 2 ^ suc j) (2 ^ low f) in
     let P = K * 2 ^ (low f - suc j) in
-    let fine : 2 ^ low f ≡ 2 ^ (low f - suc j) * 2 ^ suc j = pow_split (low f) (suc j) (roomy i.room) in
+    let fine : 2 ^ low f ≡ 2 ^ (low f - suc j) * 2 ^ suc j = pow_split (low f) (suc j) (roomy f (suc j) i.room) in
     let c = step_times (k.m * up k.e) 1 (2 ^ (low f - suc j)) (2 ^ suc j) (2 ^ low f) K (down k.e) fine k.size in
     mul_add_sum f true 1 (negsuc j) k.sign k.m k.e s m e r P i.X (2 ^ low f) (pow_pos (low f)) c
     (subst (λ (y : Float). HasValue y (unlike true k.sign) P (2 ^ low f))
@@ -248,9 +246,6 @@ lo_is_turned f j b s m e i kf r k law =
     flipped : (t : Bool) → unlike true t ≡ not t
     flipped false = refl
     flipped true = refl
-
-    roomy : suc j + prec f ≤ low f → suc j ≤ low f
-    roomy h = omega arith
 
 -- ---- what it is worth
 near_whole : (f : Format) (j X : ℕ) → 2 * dist (X * 2 ^ j) (halves (X * 2 ^ j) (2 ^ low f) * 2 ^ low f) ≤ 2 ^ low f
@@ -301,14 +296,11 @@ lo_same f j b s m e i =
     let v = signed (not s) (K * 2 ^ (low f - j)) +ℤ signed s i.X in
     let lo = left_over f j s i.X in
     let x = ratio s i.X (2 ^ low f) (pow_pos (low f)) in
-    let fine : 2 ^ low f ≡ 2 ^ (low f - j) * 2 ^ j = pow_split (low f) j (roomy i.room) in
+    let fine : 2 ^ low f ≡ 2 ^ (low f - j) * 2 ^ j = pow_split (low f) j (roomy f j i.room) in
     same_trans (value lo) (dyadic v (low f)) (difference (value (fin s m e)) (dyadic (signed s K) j)) (value_exactly f lo v (left_exactly f j b s m e i))
     (same_trans (dyadic v (low f)) (difference x (dyadic (signed s K) j)) (difference (value (fin s m e)) (dyadic (signed s K) j))
     (subst (λ (l : ℕ). v *ℤ pos (l * 2 ^ j) ≡ (signed s i.X *ℤ pos (2 ^ j) +ℤ neg_ℤ (signed s K) *ℤ pos l) *ℤ pos l) (sym fine) (exact_sum s i.X K (2 ^ (low f - j)) (2 ^ j)))
     (same_plus x (value (fin s m e)) (opposite (dyadic (signed s K) j)) (opposite (dyadic (signed s K) j)) (same_sym (value (fin s m e)) x (own_value f j b s m e i)) refl))
-  where
-    roomy : j + prec f ≤ low f → j ≤ low f
-    roomy h = omega arith
 
 size_in : (lo : Float) (t : Bool) (d l j : ℕ) → HasValue lo t d l → 0 < l → d * 2 ^ (j + 1) ≤ l → absolute (value lo) ≼ dyadic (pos 1) (j + 1)
 size_in nan t d l j v p h = absurd v
@@ -325,15 +317,12 @@ lo_small f j b s m e i =
     let K = halves (i.X * 2 ^ j) (2 ^ low f) in
     let P = K * 2 ^ (low f - j) in
     let x = left_exactly f j b s m e i in
-    let fine : 2 ^ low f ≡ 2 ^ (low f - j) * 2 ^ j = pow_split (low f) j (roomy i.room) in
+    let fine : 2 ^ low f ≡ 2 ^ (low f - j) * 2 ^ j = pow_split (low f) j (roomy f j i.room) in
     let d : x.size ≡ dist i.X P = sym (signed_size x.sign x.size) ∙ ap nat_abs x.v_is ∙ gap_not s i.X P in
     let whole : dist (i.X * 2 ^ j) (K * 2 ^ low f) ≡ dist i.X P * 2 ^ j = ap (λ (z : ℕ). dist (i.X * 2 ^ j) z) (ap (λ (z : ℕ). K * z) fine ∙ sym (mul_assoc K (2 ^ (low f - j)) (2 ^ j))) ∙ dist_mul i.X P (2 ^ j) in
     size_in (left_over f j s i.X) x.sign x.size (2 ^ low f) j x.value_is (pow_pos (low f))
     (subst (λ (z : ℕ). z * 2 ^ (j + 1) ≤ 2 ^ low f) (sym d) (half (dist i.X P) (2 ^ j) (2 ^ (j + 1)) (2 ^ low f) (pow-add 2 j 1) (subst (λ (z : ℕ). 2 * z ≤ 2 ^ low f) whole (near_whole f j i.X))))
   where
-    roomy : j + prec f ≤ low f → j ≤ low f
-    roomy h = omega arith
-
     half : (d w v l : ℕ) → v ≡ w * 2 → 2 * (d * w) ≤ l → d * v ≤ l
     half d w v l e h = let k : d * v ≡ d * (w * 2) = ap (λ (z : ℕ). d * z) e in omega arith
 

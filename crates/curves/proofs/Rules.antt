@@ -1,11 +1,12 @@
 -- Every entry of the four tables keeps its rule: one computed test for each whole table, and one lemma that carries it to a row.
-use Rattle.std.proofs.Common.{◌≡◌, ℕ, suc, ◌+◌, ◌-◌, ◌*◌, ◌/◌, ◌%◌, ◌^◌, ◌<◌, ◌≤◌, Bool, true, false, ◌&&◌, T, ltb, leb, length, get_or, pos, ◌-ℤ◌, sym, refl, ap, ◌∙◌, subst, zero-lt-suc, arith, lit≤, ltb→lt, leb→le, pow_pos}
+use Rattle.std.proofs.Common.{◌≡◌, ℕ, suc, ◌+◌, ◌-◌, ◌*◌, ◌/◌, ◌%◌, ◌^◌, ◌<◌, ◌≤◌, Bool, false, ◌&&◌, T, ltb, leb, length, get_or, pos, ◌-ℤ◌, sym, refl, ap, ◌∙◌, subst, zero-lt-suc, arith, lit≤, ltb→lt, leb→le, pow_pos}
 use native.Mathlib.Nat.{le_of_suc-le}
 use lib.Ieee.{binary64, size}
 use lib.Ieee.Exact.{HasValue}
 use lib.Ieee.Fits.{and_l, and_r}
 use borrow.Author.Differences.{ints}
 use std.Quotient.{cls}
+use Rattle.std.proofs.lemmas.Bool.{lt-leb}
 use Rattle.exact.specs.Fraction.{Fraction, fraction, plus, times}
 use Rattle.exact.specs.Exponential.{within, series, rest, Allowed}
 use Rattle.exact.specs.Logarithm.{binary}
@@ -43,14 +44,7 @@ has_number b t =
     let h : b / 2 ^ 52 < 2047 = ltb→lt (b / 2 ^ 52) 2047 (and_r (leb 1 (b / 2 ^ 52)) _ t) in
     let u : b < 2 ^ 63 = omega arith in
     let f : b % 2 ^ 63 / 2 ^ 52 ≡ suc (b / 2 ^ 52 - 1) = omega arith in
-    subst (λ (s : Bool). HasValue (double b) s (number b) (2 ^ 1074)) (positive b u) (pattern_normal binary64 b (b / 2 ^ 52 - 1) f (omega arith))
-  where
-    positive : (b : ℕ) → b < 2 ^ 63 → leb 9223372036854775808 b ≡ false
-    positive b h = go (leb 9223372036854775808 b) (leb→le 9223372036854775808 b)
-      where
-        go : (v : Bool) → (T v → 9223372036854775808 ≤ b) → v ≡ false
-        go true f = let g = f tt in absurd (omega arith)
-        go false f = refl
+    subst (λ (s : Bool). HasValue (double b) s (number b) (2 ^ 1074)) (lt-leb 9223372036854775808 b u) (pattern_normal binary64 b (b / 2 ^ 52 - 1) f (omega arith))
 
 -- ---- from fractions to the float
 abbrev number_of : ℕ → Fraction

@@ -1,5 +1,5 @@
 -- The size of an f32 from its pattern. With no sign, patterns are in the order of the sizes.
-use Rattle.std.proofs.Common.{◌≡◌, ℕ, ◌+◌, ◌-◌, ◌*◌, ◌/◌, ◌%◌, ◌^◌, ◌<◌, ◌≤◌, Bool, true, false, cond, ℤ, sym, ap, ◌∙◌, subst, mul-le-mul_right, div-lt_iff_lt-mul, le-div_iff_mul-le, mul-div_cancel, arith, pow_pos, pow_mono, pow-add}
+use Rattle.std.proofs.Common.{◌≡◌, ℕ, ◌+◌, ◌-◌, ◌*◌, ◌/◌, ◌%◌, ◌^◌, ◌<◌, ◌≤◌, Bool, true, false, cond, ◌⊎◌, ℤ, sym, ap, ◌∙◌, subst, inl, inr, mul-le-mul_right, div-lt_iff_lt-mul, le-div_iff_mul-le, mul-div_cancel, arith, pow_pos, pow_mono, pow-add}
 use native.Mathlib.Decide.{dec_lt}
 use lib.Ieee.{fin, binary32, up, down, size, to_bits}
 use lib.Ieee.Digits.{size_reaches, size-le}
@@ -49,6 +49,13 @@ above n j q h1 h2 h = go (dec_lt j (size n - 24)) (dec_lt (size n - 24) j)
         let k : size n - 24 ≡ j = omega arith in
         let t : q ≤ n / 2 ^ (size n - 24) = omega arith in
         subst (λ (i : ℕ). q * 2 ^ i ≤ n) k ((le-div_iff_mul-le (pow_pos (size n - 24))).0 t)
+
+-- one of two limits of a pattern, by its sign
+pub under : (s : Bool) (n p q : ℕ) → n < 2 ^ 31 → p ≤ 2 ^ 31 → (cond s 2147483648 0 + n < p) ⊎ ((0x8000_0000 ≤ cond s 2147483648 0 + n) × (cond s 2147483648 0 + n < q)) → n < cond s (q - 2147483648) p
+under false n p q l b (inl h) = omega arith
+under false n p q l b (inr h) = let a = h.0 in absurd (omega arith)
+under true n p q l b (inl h) = absurd (omega arith)
+under true n p q l b (inr h) = let a = h.1 in omega arith
 
 -- a finite size has a pattern below the sign's bit
 unsigned : (n : ℕ) → n < 2 ^ 277 → pattern_of n < 2 ^ 31

@@ -1,14 +1,16 @@
 -- Whole numbers from -149 to 127, and the f32 that is 2 to such a power.
-use Rattle.std.proofs.Common.{◌≡◌, ℕ, zero, suc, ◌+◌, ◌-◌, ◌*◌, ◌/◌, ◌%◌, ◌<◌, ◌≤◌, min, Bool, true, false, cond, not, ◌&&◌, ◌||◌, T, eqb, leb, ◌⊎◌, replicate, ℤ, pos, negsuc, ◌+ℤ◌, neg_ℤ, nat_abs, ◌≤ℤ◌, sym, refl, ap, ◌∙◌, subst, ap₂, inl, inr, mul-one, arith, le→leb, eqb→eq, leb→le, w32, SFits}
+use Rattle.std.proofs.Common.{◌≡◌, ℕ, zero, suc, ◌+◌, ◌-◌, ◌*◌, ◌/◌, ◌%◌, ◌<◌, ◌≤◌, min, Bool, true, false, cond, not, ◌&&◌, ◌||◌, T, eqb, ◌⊎◌, replicate, ℤ, pos, negsuc, ◌+ℤ◌, neg_ℤ, nat_abs, ◌≤ℤ◌, sym, refl, ap, ◌∙◌, subst, ap₂, inl, inr, mul-one, arith, eqb→eq, w32, SFits}
 use mathlib.Core.Bool.{beq}
 use native.Mathlib.Nat.{eq_of_mul-eq-mul_right, div-add-mod, mul-mod_left}
 use lib.Signed.{le_z}
 use lib.Ieee.{Float, nan, inf, fin, binary32, up, down, minus, eq, round, of_int, to_signed, of_bits, fits, is_nan, nan_bits, to_bits}
 use lib.Ieee.Back.{round_whole, whole_unique}
-use lib.Ieee.Bits.{is_true, is_false, nan_bits_is}
+use lib.Ieee.Bits.{is_true, nan_bits_is}
 use lib.Ieee.Exact.{HasValue}
 use lib.Ieee.Fits.{down_pos, and_i, and_l, and_r, eq→eqb, round-fits}
 use borrow.Author.Differences.{ints}
+use Rattle.std.proofs.Math.Bool.{and-true}
+use Rattle.std.proofs.lemmas.Bool.{le-leb, lt-leb, and_left, and_right}
 use Rattle.curves.specs.Exp2.{is_whole, in_powers, bits_of_power}
 use Rattle.curves.proofs.Checked.{at}
 
@@ -45,21 +47,14 @@ unfolding test of_bits
 power_is j h = power_out (of_bits binary32 (bits_of_power j)) (minus j 149) (at test (replicate 277 0) tt j h)
 
 moved : (k : ℤ) → negsuc 148 ≤ℤ k → k ≤ℤ pos 127 → (nat_abs (k +ℤ pos 149) < 277) × (minus (nat_abs (k +ℤ pos 149)) 149 ≡ k)
-moved (pos n) l h = (omega (arith, ints, h), ap (λ (b : Bool). cond b (pos (n + 149 - 149)) (negsuc (149 - suc (n + 149)))) (is_true (leb 149 (n + 149)) (le→leb 149 (n + 149) (omega arith))) ∙ ap pos (omega arith))
+moved (pos n) l h = (omega (arith, ints, h), ap (λ (b : Bool). cond b (pos (n + 149 - 149)) (negsuc (149 - suc (n + 149)))) (le-leb 149 (n + 149) (omega arith)) ∙ ap pos (omega arith))
 moved (negsuc n) l h =
     let b : n ≤ 148 = omega (arith, ints, l) in
     let e : negsuc n +ℤ pos 149 ≡ pos (148 - n) = omega (arith, ints) in (
       subst (λ (z : ℤ). nat_abs z < 277) (sym e) (omega arith),
       ap (λ (z : ℤ). minus (nat_abs z) 149) e
-          ∙ ap (λ (v : Bool). cond v (pos (148 - n - 149)) (negsuc (149 - suc (148 - n)))) (is_false (leb 149 (148 - n)) (not_leb (148 - n) (omega arith))) ∙ ap negsuc (omega arith),
+          ∙ ap (λ (v : Bool). cond v (pos (148 - n - 149)) (negsuc (149 - suc (148 - n)))) (lt-leb 149 (148 - n) (omega arith)) ∙ ap negsuc (omega arith),
     )
-  where
-    not_leb : (m : ℕ) → m < 149 → T (not (leb 149 m))
-    not_leb m h = go (leb 149 m) (leb→le 149 m)
-      where
-        go : (b : Bool) → (T b → 149 ≤ m) → T (not b)
-        go true f = let g = f tt in absurd (omega arith)
-        go false f = tt
 
 pub power_of_lem : (k : ℤ) → negsuc 148 ≤ℤ k → k ≤ℤ pos 127 → of_bits binary32 (bits_of_power (nat_abs (k +ℤ pos 149))) ≡ fin false 1 k
 power_of_lem k l h = let m = moved k l h in power_is (nat_abs (k +ℤ pos 149)) m.0 ∙ ap (fin false 1) m.1
@@ -153,26 +148,13 @@ pub in_powers_lem : (x : Float) (k : ℤ) → k ≡ to_signed 31 x → negsuc 14
 in_powers_lem x k e l h =
     let l' = subst (λ (z : ℤ). negsuc 148 ≤ℤ z) e l in
     let h' = subst (λ (z : ℤ). z ≤ℤ pos 127) e h in
-    ap₂ (λ (a b : Bool). is_whole x && (a && b)) (is_true _ l'.le) (is_true _ h'.le) ∙ keep (is_whole x) ∙ sym (back_whole x l' h') ∙ ap (λ (z : ℤ). eq (of_int binary32 z) x) (sym e)
-  where
-    keep : (b : Bool) → (b && (true && true)) ≡ b
-    keep true = refl
-    keep false = refl
+    ap₂ (λ (a b : Bool). is_whole x && (a && b)) (is_true _ l'.le) (is_true _ h'.le) ∙ and-true (is_whole x) ∙ sym (back_whole x l' h') ∙ ap (λ (z : ℤ). eq (of_int binary32 z) x) (sym e)
 
 pub below_powers : (x : Float) (k : ℤ) → k ≡ to_signed 31 x → le_z (negsuc 148) k ≡ false → in_powers x ≡ false
-below_powers x k e l = ap (λ (a : Bool). is_whole x && (a && le_z (to_signed 31 x) (pos 127))) (ap (le_z (negsuc 148)) (sym e) ∙ l) ∙ drop (is_whole x)
-  where
-    drop : (b : Bool) → (b && false) ≡ false
-    drop true = refl
-    drop false = refl
+below_powers x k e l = and_right (is_whole x) _ (and_left _ (le_z (to_signed 31 x) (pos 127)) (ap (le_z (negsuc 148)) (sym e) ∙ l))
 
 pub above_powers : (x : Float) (k : ℤ) → k ≡ to_signed 31 x → le_z k (pos 127) ≡ false → in_powers x ≡ false
-above_powers x k e l = ap (λ (a : Bool). is_whole x && (le_z (negsuc 148) (to_signed 31 x) && a)) (ap (λ (z : ℤ). le_z z (pos 127)) (sym e) ∙ l) ∙ drop (is_whole x) (le_z (negsuc 148) (to_signed 31 x))
-  where
-    drop : (a b : Bool) → (a && (b && false)) ≡ false
-    drop true true = refl
-    drop true false = refl
-    drop false b = refl
+above_powers x k e l = and_right (is_whole x) _ (and_right (le_z (negsuc 148) (to_signed 31 x)) _ (ap (λ (z : ℤ). le_z z (pos 127)) (sym e) ∙ l))
 
 in_le : {a b : ℤ} → le_z a b ≡ true → a ≤ℤ b
 in_le e = record { le = subst T (sym e) tt }

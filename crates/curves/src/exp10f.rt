@@ -1,41 +1,14 @@
 // exp10: x is reduced to lo by whole multiples of log10 2 / 32, and 10^x is a power of two, by a table, times a polynomial of lo.
-ghost use Rattle.std.specs.Prelude.{◌≡◌, ◌<◌, slice_index};
-ghost use Rattle.curves.specs.Tables.{table_exp2_mid};
-ghost use Rattle.curves.specs.Steps.{double, row_of, scaled_row};
-ghost use Rattle.curves.specs.Entries.{MidEntry};
+ghost use Rattle.std.specs.Prelude.{◌≡◌};
 ghost use Rattle.curves.specs.Exp10.{hi, lo, exp10_near_one, exp10_small_value, exp10_table_value, exp10_value};
 ghost use Rattle.curves.specs.Split.{Exp10Splits};
 
 use crate::Curve;
-use crate::polyeval::{polyeval7, times_power};
-use crate::power::add_power;
-use crate::tables::EXP_2_MID;
+use crate::polyeval::{polyeval, times_power};
+use crate::rows::{TwoIn32, scaled_row};
 use arithmetic::ExpfBackend;
 use fast::{narrow, to_i32};
 use std::num::{f32_to_f64_with_nan, f64_from_bits_with_nan};
-
-// The bits of 2^(i / 32), within one unit.
-fn exp_2_mid(i: usize) -> u64
-    requires { i < 32 }
-    ensures value { result ≡ slice_index table_exp2_mid i }
-    ensures near { MidEntry i (double result) }
-{
-    EXP_2_MID[i]
-}
-
-fn row_of_32(k: i32) -> usize
-    ensures value { result ≡ row_of 32 k }
-    ensures bound { result < 32 }
-{
-    (k & 31) as usize
-}
-
-// The bits of 2^(k / 32).
-fn exp10_row(k: i32) -> u64
-    ensures { result ≡ scaled_row table_exp2_mid 32 k }
-{
-    add_power(exp_2_mid(row_of_32(k)), k >> 5)
-}
 
 // 10^x is hi 10^lo.
 #[derive(Clone, Copy)]
@@ -58,7 +31,7 @@ pub fn exp_b_range_reduc<B: ExpfBackend>(arith: &B, x: f32) -> ExpBReduc
     let kd = arith.round(LOG2_B * xd);
     let first = arith.fma(kd, M_LOGB_2_HI, xd);
     ExpBReduc {
-        hi: f64_from_bits_with_nan(exp10_row(to_i32(kd))),
+        hi: f64_from_bits_with_nan(scaled_row::<TwoIn32, 5>(to_i32(kd))),
         lo: arith.fma(kd, M_LOGB_2_LO, first),
     }
 }
@@ -66,40 +39,44 @@ pub fn exp_b_range_reduc<B: ExpfBackend>(arith: &B, x: f32) -> ExpBReduc
 fn exp10_small<B: ExpfBackend>(arith: &B, x: f32) -> f32
     ensures { result ≡ exp10_small_value (B.ExpfBackend.meaning arith.now) x }
 {
-    // 0x40026bb1bbb55516
-    const C0: f64 = 2.302585092994046;
-    // 0x40053524c73cfbf6
-    const C1: f64 = 2.6509490552411945;
-    // 0x4000470591de0b07
-    const C2: f64 = 2.0346785922896546;
-    // 0x3ff2bd760599f3a5
-    const C3: f64 = 1.17125513256108;
-    // 0x3fe142a001511a6f
-    const C4: f64 = 0.5393829370230615;
-    // 0x3fca7feffa781d53
-    const C5: f64 = 0.20702934007588655;
-    // 0x3fb16e53492c0f0e
-    const C6: f64 = 0.0680896810190996;
+    const COEFFICIENTS: [f64; 7] = [
+        // 0x40026bb1bbb55516
+        2.302585092994046,
+        // 0x40053524c73cfbf6
+        2.6509490552411945,
+        // 0x4000470591de0b07
+        2.0346785922896546,
+        // 0x3ff2bd760599f3a5
+        1.17125513256108,
+        // 0x3fe142a001511a6f
+        0.5393829370230615,
+        // 0x3fca7feffa781d53
+        0.20702934007588655,
+        // 0x3fb16e53492c0f0e
+        0.0680896810190996,
+    ];
     let xd = f32_to_f64_with_nan(x);
-    let p = polyeval7(arith, xd, C0, C1, C2, C3, C4, C5, C6);
+    let p = polyeval(arith, xd, COEFFICIENTS);
     narrow(arith.fma(p, xd, 1.0))
 }
 
 fn exp10_table<B: ExpfBackend>(arith: &B, x: f32) -> f32
     ensures { result ≡ exp10_table_value (B.ExpfBackend.meaning arith.now) x }
 {
-    // 0x40026bb1bbb55515
-    const C0: f64 = 2.3025850929940455;
-    // 0x40053524c73bd3ea
-    const C1: f64 = 2.650949055207538;
-    // 0x4000470591dff149
-    const C2: f64 = 2.0346785923449358;
-    // 0x3ff2bd7c0a9fbc4d
-    const C3: f64 = 1.1712608733175955;
-    // 0x3fe1429e74a98f43
-    const C4: f64 = 0.539382198196542;
+    const COEFFICIENTS: [f64; 5] = [
+        // 0x40026bb1bbb55515
+        2.3025850929940455,
+        // 0x40053524c73bd3ea
+        2.650949055207538,
+        // 0x4000470591dff149
+        2.0346785923449358,
+        // 0x3ff2bd7c0a9fbc4d
+        1.1712608733175955,
+        // 0x3fe1429e74a98f43
+        0.539382198196542,
+    ];
     let rr = exp_b_range_reduc(arith, x);
-    narrow(times_power(arith, rr.lo, rr.hi, C0, C1, C2, C3, C4))
+    narrow(times_power(arith, rr.lo, rr.hi, COEFFICIENTS))
 }
 
 #[derive(Clone, Copy)]

@@ -1,80 +1,58 @@
 // exp2: x is split as k / 64 + lo, and 2^x is 2^(k / 64), by a table and a whole power of two, times a polynomial of lo.
-ghost use Rattle.std.specs.Prelude.{◌≡◌, ◌<◌, slice_index};
-ghost use Rattle.curves.specs.Tables.{table_exp2f};
-ghost use Rattle.curves.specs.Steps.{double, row_of, scaled_row};
+ghost use Rattle.std.specs.Prelude.{◌≡◌};
 ghost use Rattle.curves.specs.Exp2.{exp2_small_value, exp2_table_value, exp2_value};
-ghost use Rattle.curves.specs.Entries.{Exp2fEntry};
 ghost use Rattle.curves.specs.Split.{Exp2Splits};
 
 use crate::Curve;
 use crate::polyeval::{polyeval6, times_power};
-use crate::power::{add_power, power_of_two, whole_power};
-use crate::tables::EXP2F_TABLE;
+use crate::power::{power_of_two, whole_power};
+use crate::rows::{TwoIn64, scaled_row};
 use arithmetic::ExpfBackend;
 use fast::{narrow, to_i32};
 use std::num::{f32_to_f64_with_nan, f64_from_bits_with_nan};
 
-// The bits of 2^(i / 64), within one unit.
-fn exp2f_entry(i: usize) -> u64
-    requires { i < 64 }
-    ensures value { result ≡ slice_index table_exp2f i }
-    ensures near { Exp2fEntry i (double result) }
-{
-    EXP2F_TABLE[i]
-}
-
-fn row_of_64(k: i32) -> usize
-    ensures value { result ≡ row_of 64 k }
-    ensures bound { result < 64 }
-{
-    (k & 63) as usize
-}
-
-// The bits of 2^(k / 64).
-fn exp2_row(k: i32) -> u64
-    ensures { result ≡ scaled_row table_exp2f 64 k }
-{
-    add_power(exp2f_entry(row_of_64(k)), k >> 6)
-}
-
 fn exp2_small<B: ExpfBackend>(arith: &B, x: f32) -> f32
     ensures { result ≡ exp2_small_value (B.ExpfBackend.meaning arith.now) x }
 {
-    // 0x3fe62e42fefa39f3
-    const C0: f64 = 0.6931471805599457;
-    // 0x3fcebfbdff82c57b
-    const C1: f64 = 0.24022650695910017;
-    // 0x3fac6b08d6f2d7aa
-    const C2: f64 = 0.05550410865673368;
-    // 0x3f83b2ab6fc92f5d
-    const C3: f64 = 0.009618129109319968;
-    // 0x3f55d897cfe27125
-    const C4: f64 = 0.0013333780803242515;
-    // 0x3f243090e61e6af1
-    const C5: f64 = 0.00015403527055187592;
+    const COEFFICIENTS: [f64; 6] = [
+        // 0x3fe62e42fefa39f3
+        0.6931471805599457,
+        // 0x3fcebfbdff82c57b
+        0.24022650695910017,
+        // 0x3fac6b08d6f2d7aa
+        0.05550410865673368,
+        // 0x3f83b2ab6fc92f5d
+        0.009618129109319968,
+        // 0x3f55d897cfe27125
+        0.0013333780803242515,
+        // 0x3f243090e61e6af1
+        0.00015403527055187592,
+    ];
     let xd = f32_to_f64_with_nan(x);
-    let p = polyeval6(arith, xd, C0, C1, C2, C3, C4, C5);
+    let p = polyeval6(arith, xd, COEFFICIENTS);
     narrow(arith.fma(p, xd, 1.0))
 }
 
 fn exp2_table<B: ExpfBackend>(arith: &B, x: f32) -> f32
     ensures { result ≡ exp2_table_value (B.ExpfBackend.meaning arith.now) x }
 {
-    // 0x3fe62e42fefa39ef
-    const C0: f64 = 0.6931471805599453;
-    // 0x3fcebfbdff8131c4
-    const C1: f64 = 0.2402265069562316;
-    // 0x3fac6b08d7061695
-    const C2: f64 = 0.05550410866548564;
-    // 0x3f83b2b1bee74b2a
-    const C3: f64 = 0.009618176115429106;
-    // 0x3f55d88091198529
-    const C4: f64 = 0.0013333564314950786;
+    const COEFFICIENTS: [f64; 5] = [
+        // 0x3fe62e42fefa39ef
+        0.6931471805599453,
+        // 0x3fcebfbdff8131c4
+        0.2402265069562316,
+        // 0x3fac6b08d7061695
+        0.05550410866548564,
+        // 0x3f83b2b1bee74b2a
+        0.009618176115429106,
+        // 0x3f55d88091198529
+        0.0013333564314950786,
+    ];
     let xd = f32_to_f64_with_nan(x);
     let kd = arith.round(xd * 64.0);
     let lo = arith.fma(-0.015625, kd, xd);
-    let mh = f64_from_bits_with_nan(exp2_row(to_i32(kd)));
-    narrow(times_power(arith, lo, mh, C0, C1, C2, C3, C4))
+    let mh = f64_from_bits_with_nan(scaled_row::<TwoIn64, 6>(to_i32(kd)));
+    narrow(times_power(arith, lo, mh, COEFFICIENTS))
 }
 
 #[derive(Clone, Copy)]

@@ -3,33 +3,14 @@ ghost use Rattle.std.specs.Prelude.{◌≡◌, ◌<◌};
 ghost use Rattle.curves.specs.Tables.{table_exp_m1, table_exp_m2};
 ghost use Rattle.curves.specs.Steps.{row};
 ghost use Rattle.curves.specs.Exp.{k, row_of_whole, row_of_rest, exp_poly, exp_tables_value, exp_value, ExpReaches};
-ghost use Rattle.curves.specs.Entries.{M1Entry, M2Entry};
 ghost use Rattle.curves.specs.Split.{InRows, ExpSplits};
 
 use crate::Curve;
-use crate::polyeval::polyeval5;
-use crate::tables::{EXP_M1, EXP_M2};
+use crate::polyeval::polyeval;
+use crate::rows::{ExpRest, ExpWhole, Table};
 use arithmetic::ExpfBackend;
 use fast::{narrow, to_i32};
 use std::num::f32_to_f64_with_nan;
-
-// e^(i - 104), within one unit.
-fn exp_m1(i: usize) -> f64
-    requires { i < 207 }
-    ensures value { result ≡ row table_exp_m1 i }
-    ensures near { M1Entry i result }
-{
-    f64::from_bits(EXP_M1[i])
-}
-
-// e^(i / 128), within one unit.
-fn exp_m2(i: usize) -> f64
-    requires { i < 128 }
-    ensures value { result ≡ row table_exp_m2 i }
-    ensures near { M2Entry i result }
-{
-    f64::from_bits(EXP_M2[i])
-}
 
 // The rows of the two tables: the whole part and the remainder of (k + 104 * 128) / 128.
 fn rows(k: i32) -> (usize, usize)
@@ -43,6 +24,12 @@ fn rows(k: i32) -> (usize, usize)
     ((at >> 7) as usize, (at & 0x7f) as usize)
 }
 
+// An x that no band before the tables holds.
+pub(crate) struct Reaching {
+    pub(crate) x: f32,
+    ghost reaches: { ∥ ExpReaches x ∥₁ },
+}
+
 // e^x as a product: the polynomial of lo, and the two rows.
 pub(crate) struct ExpFactors {
     pub(crate) p: f64,
@@ -50,35 +37,37 @@ pub(crate) struct ExpFactors {
     pub(crate) mid: f64,
 }
 
-pub(crate) fn factors<B: ExpfBackend>(arith: &B, x: f32) -> ExpFactors
-    requires { ExpReaches x }
-    ensures p_value { result.p ≡ exp_poly (B.ExpfBackend.meaning arith.now) x }
-    ensures hi_value { result.hi ≡ row table_exp_m1 (row_of_whole (k (B.ExpfBackend.meaning arith.now) x)) }
-    ensures mid_value { result.mid ≡ row table_exp_m2 (row_of_rest (k (B.ExpfBackend.meaning arith.now) x)) }
+pub(crate) fn factors<B: ExpfBackend>(arith: &B, input: Reaching) -> ExpFactors
+    ensures p_value { result.p ≡ exp_poly (B.ExpfBackend.meaning arith.now) input.x }
+    ensures hi_value { result.hi ≡ row table_exp_m1 (row_of_whole (k (B.ExpfBackend.meaning arith.now) input.x)) }
+    ensures mid_value { result.mid ≡ row table_exp_m2 (row_of_rest (k (B.ExpfBackend.meaning arith.now) input.x)) }
 {
-    // 0x3feffffffffff777
-    const C1: f64 = 0.9999999999997574;
-    // 0x3fe000000000071c
-    const C2: f64 = 0.5000000000002021;
-    // 0x3fc555566668e5e7
-    const C3: f64 = 0.16666679382778612;
-    // 0x3fa55555555ef243
-    const C4: f64 = 0.041666666671038154;
+    const COEFFICIENTS: [f64; 5] = [
+        1.0,
+        // 0x3feffffffffff777
+        0.9999999999997574,
+        // 0x3fe000000000071c
+        0.5000000000002021,
+        // 0x3fc555566668e5e7
+        0.16666679382778612,
+        // 0x3fa55555555ef243
+        0.041666666671038154,
+    ];
+    let Reaching { x } = input;
     let kf = arith.roundf(x * 128.0);
     let lo = f32_to_f64_with_nan(arith.fmaf(kf, -0.0078125, x));
     let (whole, rest) = rows(to_i32(f32_to_f64_with_nan(kf)));
     ExpFactors {
-        p: polyeval5(arith, lo, 1.0, C1, C2, C3, C4),
-        hi: exp_m1(whole),
-        mid: exp_m2(rest),
+        p: polyeval(arith, lo, COEFFICIENTS),
+        hi: ExpWhole::row(whole),
+        mid: ExpRest::row(rest),
     }
 }
 
-fn exp_tables<B: ExpfBackend>(arith: &B, x: f32) -> f32
-    requires { ExpReaches x }
-    ensures { result ≡ exp_tables_value (B.ExpfBackend.meaning arith.now) x }
+fn exp_tables<B: ExpfBackend>(arith: &B, input: Reaching) -> f32
+    ensures { result ≡ exp_tables_value (B.ExpfBackend.meaning arith.now) input.x }
 {
-    let ExpFactors { p, hi, mid } = factors(arith, x);
+    let ExpFactors { p, hi, mid } = factors(arith, input);
     narrow(p * hi * mid)
 }
 
@@ -106,7 +95,7 @@ impl Curve for Exp {
         } else if p < 0x8000_0000 && p >= Self::OVERFLOW_LIMIT {
             f32::INFINITY
         } else {
-            exp_tables(arith, x)
+            exp_tables(arith, Reaching { x })
         }
     }
 }

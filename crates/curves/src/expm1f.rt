@@ -1,12 +1,10 @@
 // expm1: e^x - 1, by a polynomial near zero, and elsewhere by exp's split, rows and polynomial less one.
 ghost use Rattle.std.specs.Prelude.{◌≡◌};
-ghost use Rattle.curves.specs.Steps.{single};
-ghost use Rattle.curves.specs.Exp.{ExpReaches};
 ghost use Rattle.curves.specs.Expm1.{expm1_small_value, expm1_tables_value, expm1_value};
 
 use crate::Curve;
-use crate::expf::{ExpFactors, factors};
-use crate::polyeval::polyeval7;
+use crate::expf::{ExpFactors, Reaching, factors};
+use crate::polyeval::polyeval;
 use arithmetic::ExpfBackend;
 use fast::narrow;
 use std::num::f32_to_f64_with_nan;
@@ -14,44 +12,41 @@ use std::num::f32_to_f64_with_nan;
 fn expm1_small<B: ExpfBackend>(arith: &B, x: f32) -> f32
     ensures { result ≡ expm1_small_value (B.ExpfBackend.meaning arith.now) x }
 {
-    // 0x3fe0000000000000
-    const C0: f64 = 0.5;
-    // 0x3fc55555555557dd
-    const C1: f64 = 0.16666666666668464;
-    // 0x3fa55555555552fa
-    const C2: f64 = 0.04166666666666248;
-    // 0x3f8111110fcd58b7
-    const C3: f64 = 0.008333333296530616;
-    // 0x3f56c16c1717660b
-    const C4: f64 = 0.0013888888901106868;
-    // 0x3f2a0241f0006d62
-    const C5: f64 = 0.00019843153859331735;
-    // 0x3efa01e3f8d3c060
-    const C6: f64 = 2.480257494580395e-05;
+    const COEFFICIENTS: [f64; 7] = [
+        // 0x3fe0000000000000
+        0.5,
+        // 0x3fc55555555557dd
+        0.16666666666668464,
+        // 0x3fa55555555552fa
+        0.04166666666666248,
+        // 0x3f8111110fcd58b7
+        0.008333333296530616,
+        // 0x3f56c16c1717660b
+        0.0013888888901106868,
+        // 0x3f2a0241f0006d62
+        0.00019843153859331735,
+        // 0x3efa01e3f8d3c060
+        2.480257494580395e-05,
+    ];
     let xd = f32_to_f64_with_nan(x);
-    let p = polyeval7(arith, xd, C0, C1, C2, C3, C4, C5, C6);
+    let p = polyeval(arith, xd, COEFFICIENTS);
     narrow(arith.fma(p, xd * xd, xd))
 }
 
-fn expm1_tables<B: ExpfBackend>(arith: &B, x: f32) -> f32
-    requires { ExpReaches x }
-    ensures { result ≡ expm1_tables_value (B.ExpfBackend.meaning arith.now) x }
+fn expm1_tables<B: ExpfBackend>(arith: &B, input: Reaching) -> f32
+    ensures { result ≡ expm1_tables_value (B.ExpfBackend.meaning arith.now) input.x }
 {
-    let ExpFactors { p, hi, mid } = factors(arith, x);
+    let ExpFactors { p, hi, mid } = factors(arith, input);
     narrow(arith.fma(p * hi, mid, -1.0))
-}
-
-// The lowest value, -1.
-fn minus_one() -> f32
-    ensures { result ≡ single 0xbf80_0000 }
-{
-    -1.0
 }
 
 #[derive(Clone, Copy)]
 pub struct Expm1 {}
 
 impl Expm1 {
+    // 0xbf800000
+    const LOWEST: f32 = -1.0;
+
     // below this pattern, with no sign, a polynomial serves
     const SMALL_LIMIT: u32 = 0x3d80_0000;
 }
@@ -75,13 +70,13 @@ impl Curve for Expm1 {
         if size < Self::NEAR_ONE_LIMIT {
             x
         } else if p >= Self::ZERO_LIMIT {
-            minus_one()
+            Expm1::LOWEST
         } else if p < 0x8000_0000 && p >= Self::OVERFLOW_LIMIT {
             f32::INFINITY
         } else if size < Expm1::SMALL_LIMIT {
             expm1_small(arith, x)
         } else {
-            expm1_tables(arith, x)
+            expm1_tables(arith, Reaching { x })
         }
     }
 }

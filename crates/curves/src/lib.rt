@@ -8,6 +8,7 @@ pub mod expf;
 pub mod expm1f;
 pub mod polyeval;
 mod power;
+mod rows;
 mod tables;
 
 ghost use Rattle.std.specs.Prelude.{◌≡◌, Float};

@@ -1,7 +1,7 @@
 use Rattle.std.proofs.Common.{refl}
 use Rattle.curves.specs.Tables.{table_exp2f}
 use Rattle.curves.proofs.Rules.{exp2f_entry_lem}
-use Rattle.curves.proofs.exp2f.exp2f_entry.Goals as goal
+use Rattle.curves.proofs.rows.TwoIn64Table.entry.Goals as goal
 
 pub returns : goal.returns
 unfolding table_exp2f
