@@ -31,29 +31,18 @@ fn write_answer(out: &mut impl Write, q: Query) -> io::Result<()> {
     writeln!(out, "{bits:#010x} {y:?}")
 }
 
-// Answers one line; false where it cannot be read.
-fn answer_line(out: &mut impl Write, number: u64, text: &[u8]) -> io::Result<bool> {
-    match read_bytes(text) {
-        Ok(q) => {
-            write_answer(out, q)?;
-            Ok(true)
-        }
-        Err(m) => {
-            writeln!(out, "error: line {number}: {m}")?;
-            Ok(false)
-        }
-    }
-}
-
 // Answers every line; how many could not be read.
 fn answer_all(rt: &HostRuntime) -> io::Result<u64> {
     let mut out = BufWriter::new(rt.alloc(), rt.stdout())?;
-    let mut number = 0u64;
+    let lines = BufReader::new(rt.alloc(), rt.stdin())?.split(rt.alloc(), b'\n');
     let mut wrong = 0u64;
-    for text in BufReader::new(rt.alloc(), rt.stdin())?.split(rt.alloc(), b'\n') {
-        number = number.saturating_add(1);
-        if !answer_line(&mut out, number, &text?)? {
-            wrong = wrong.saturating_add(1);
+    for (number, text) in (1u64..).zip(lines) {
+        match read_bytes(&text?) {
+            Ok(q) => write_answer(&mut out, q)?,
+            Err(m) => {
+                writeln!(out, "error: line {number}: {m}")?;
+                wrong = wrong.saturating_add(1);
+            }
         }
     }
     out.flush()?;
@@ -61,12 +50,11 @@ fn answer_all(rt: &HostRuntime) -> io::Result<u64> {
 }
 
 fn wants_help(rt: &HostRuntime) -> io::Result<bool> {
-    for word in env::args(rt)?.skip(1) {
-        if word.as_str() == "--help" || word.as_str() == "-h" {
-            return Ok(true);
-        }
-    }
-    Ok(false)
+    Ok(
+        env::args(rt)?
+            .skip(1)
+            .any(|word| word.as_str() == "--help" || word.as_str() == "-h"),
+    )
 }
 
 fn run(rt: &HostRuntime) -> anyhow::Result<()> {

@@ -1,10 +1,9 @@
 // The digest: words folded into 64 bits, by blocks of 2^24 patterns.
 ghost use Rattle.std.specs.Prelude.{◌≡◌, ◌+◌, ◌*◌, ◌/◌, ◌^◌, ◌<◌, MatchOption};
-ghost use Rattle.export.specs.Answers.{answer};
-ghost use Rattle.query.specs.Meaning.{curve_of, arithmetic_of};
+ghost use Rattle.query.specs.Meaning.{answer, value_of};
 ghost use Rattle.digest.specs.Digest.{mixed, joined, block, whole};
 
-use crate::names::Pair;
+use query::Pair;
 
 const START: u64 = 0xcbf2_9ce4_8422_2325;
 
@@ -65,25 +64,20 @@ impl Every {
 // The digest of the pair's answers in a block.
 pub(crate) fn block_digest(pair: Pair, every: Every, number: u32) -> u64
     requires { number < 256 }
-    ensures { result ≡ block (answer (curve_of pair.curve (arithmetic_of pair.arithmetic))) every.step (16777215 / every.step + 1) (number * 2 ^ 24) }
+    ensures { result ≡ block (answer (value_of pair)) every.step (16777215 / every.step + 1) (number * 2 ^ 24) }
 {
-    let mut h = START;
-    let mut bits = number << 24;
-    let count = every.count();
-    for _i in 0..count {
-        h = mix(h, pair.answer_at(bits));
-        bits = bits.wrapping_add(every.step);
-    }
-    h
+    let first = number << 24;
+    (0..every.count())
+        .map(|i| first + i * every.step)
+        .fold(START, |h, bits| mix(h, pair.answer_at(bits)))
 }
 
 // The digest of the pair's answers in all blocks.
 pub fn whole_digest(pair: Pair, every: Every) -> u64
-    ensures { result ≡ whole (answer (curve_of pair.curve (arithmetic_of pair.arithmetic))) every.step (16777215 / every.step + 1) }
+    ensures { result ≡ whole (answer (value_of pair)) every.step (16777215 / every.step + 1) }
 {
-    let mut h = START;
-    for number in 0..BLOCKS {
-        h = join(h, block_digest(pair, every, number));
-    }
-    h
+    (0..BLOCKS).fold(
+        START,
+        |h, number| join(h, block_digest(pair, every, number)),
+    )
 }

@@ -3,16 +3,16 @@
 #![tactic(auto)]
 
 mod fold;
-mod names;
 mod request;
 
+use accuracy::function::Function;
 use fold::{Every, block_digest, whole_digest};
-use names::{ARITHMETICS, CURVES, Pair};
+use query::{ArithmeticName, Pair};
 use request::{Blocks, Request, USAGE, read_request};
 use std::{env, io};
 
 fn print_blocks(rt: &HostRuntime, pair: Pair, every: Every, blocks: Blocks) -> io::Result<()> {
-    for number in blocks.first..blocks.first + blocks.count {
+    for number in blocks.numbers {
         let digest = block_digest(pair, every, number);
         println!(rt; "{pair} block {number} 0x{digest:016x}")?;
     }
@@ -25,8 +25,8 @@ fn print_whole(rt: &HostRuntime, pair: Pair, every: Every) -> io::Result<()> {
 }
 
 fn print_sample(rt: &HostRuntime, every: Every) -> io::Result<()> {
-    for arithmetic in ARITHMETICS {
-        for curve in CURVES {
+    for arithmetic in ArithmeticName::ALL {
+        for curve in Function::ALL {
             print_whole(rt, Pair { curve, arithmetic }, every)?;
         }
     }

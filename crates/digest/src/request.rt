@@ -1,11 +1,10 @@
 // What the words of the command line ask for.
-ghost use Rattle.std.specs.Prelude.{◌≡◌, ◌+◌, ◌≤◌, IfOk};
-ghost use Rattle.query.specs.Meaning.{word_of_curve, word_of_arithmetic};
+ghost use Rattle.std.specs.Prelude.{◌≤◌};
 
 use crate::fold::{BLOCKS, Every};
-use crate::names::Pair;
-use query::{ArithmeticName, CurveName};
+use query::{Pair, UnknownName};
 use std::fmt;
+use std::ops::Range;
 
 pub const USAGE: &str = "\
 digest CURVE ARITHMETIC                the digest of the answers to all 2^32 patterns
@@ -18,11 +17,10 @@ A digest starts as 0xcbf29ce484222325; each answer w, a pattern of 32 bits, make
 modulo 2^64. The digest of several blocks is the same over their digests, the upper 32 bits of each and then the lower.";
 
 // Blocks in a row.
-#[derive(Clone, Copy)]
+#[derive(Drop)]
 pub struct Blocks {
-    pub first: u32,
-    pub count: u32,
-    ghost inside: { first + count ≤ 256 },
+    pub numbers: Range<u32>,
+    ghost inside: { numbers.end ≤ 256 },
 }
 
 pub enum Request {
@@ -55,34 +53,27 @@ impl fmt::Display for Mistake {
     }
 }
 
-fn read_pair(curve: &str, arithmetic: &str) -> Result<Pair, Mistake>
-    ensures { IfOk result (λ p. (curve.now ≡ word_of_curve p.curve) × (arithmetic.now ≡ word_of_arithmetic p.arithmetic)) }
-{
-    let Some(curve) = CurveName::read(curve) else {
-        return Err(Mistake::UnknownCurve);
-    };
-    let Some(arithmetic) = ArithmeticName::read(arithmetic) else {
-        return Err(Mistake::UnknownArithmetic);
-    };
-    Ok(Pair { curve, arithmetic })
+impl From<UnknownName<'_>> for Mistake {
+    fn from(name: UnknownName<'_>) -> Mistake {
+        match name {
+            UnknownName::Curve(_) => Mistake::UnknownCurve,
+            UnknownName::Arithmetic(_) => Mistake::UnknownArithmetic,
+        }
+    }
 }
 
 fn read_blocks(first: &str, count: &str) -> Result<Blocks, Mistake> {
     let (Ok(first), Ok(count)) = (first.parse::<u32>(), count.parse::<u32>()) else {
         return Err(Mistake::Blocks);
     };
-    if first <= BLOCKS && count <= BLOCKS - first {
-        Ok(Blocks { first, count })
-    } else {
-        Err(Mistake::Blocks)
+    match first.checked_add(count) {
+        Some(end) if end <= BLOCKS => Ok(Blocks { numbers: first..end }),
+        _ => Err(Mistake::Blocks),
     }
 }
 
 fn read_every(step: &str) -> Result<Every, Mistake> {
-    let Ok(step) = step.parse::<u32>() else {
-        return Err(Mistake::Step);
-    };
-    Every::new(step).ok_or(Mistake::Step)
+    step.parse().ok().and_then(Every::new).ok_or(Mistake::Step)
 }
 
 pub fn read_request(words: &[String]) -> Result<Request, Mistake> {
@@ -91,9 +82,12 @@ pub fn read_request(words: &[String]) -> Result<Request, Mistake> {
         [option, step] if option.as_str() == "--every" => Ok(Request::Sample(read_every(
             step.as_str(),
         )?)),
-        [curve, arithmetic] => Ok(Request::Whole(read_pair(curve.as_str(), arithmetic.as_str())?)),
+        [curve, arithmetic] => Ok(Request::Whole(Pair::from_words(
+            curve.as_str(),
+            arithmetic.as_str(),
+        )?)),
         [curve, arithmetic, first, count] => {
-            let pair = read_pair(curve.as_str(), arithmetic.as_str())?;
+            let pair = Pair::from_words(curve.as_str(), arithmetic.as_str())?;
             Ok(Request::Each(pair, read_blocks(first.as_str(), count.as_str())?))
         }
         _ => Err(Mistake::Words),

@@ -1,15 +1,11 @@
 -- What the static library answers: patterns in, patterns out.
-use Rattle.std.specs.Prelude.{◌≡◌, ℕ, zero, suc, ◌<◌, List, length, from_bits, slice_index, to_bits, Float}
-use Rattle.std.specs.Float.{binary32}
+use Rattle.std.specs.Prelude.{◌≡◌, ℕ, zero, suc, ◌<◌, List, length, slice_index, Float}
 use Rattle.arithmetic.specs.Arithmetic.{Arithmetic, generic, fusing}
 use Rattle.curves.specs.Exp.{exp_value}
 use Rattle.curves.specs.Exp2.{exp2_value}
 use Rattle.curves.specs.Exp10.{exp10_value}
 use Rattle.curves.specs.Expm1.{expm1_value}
-
--- the pattern of a curve's value at the f32 of a pattern; a NaN is written 0x7fc00000
-abbrev pub answer : (Float → Float) → ℕ → ℕ
-answer f b = to_bits binary32 (f (from_bits binary32 b))
+use Rattle.query.specs.Meaning.{answer}
 
 -- every pattern was replaced by its answer
 abbrev pub Answered : (Float → Float) → List ℕ → List ℕ → Type 0

@@ -1,1 +1,4 @@
+pub mod Names
 pub mod Meaning
+pub mod Naming
+pub mod Pattern

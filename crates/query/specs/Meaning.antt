@@ -1,37 +1,19 @@
--- What the names of curves and arithmetics stand for.
-use Rattle.std.specs.Prelude.{◌≡◌, ℕ, List, Some, None, codes, Option, ◌≢◌, Float}
-use Rattle.arithmetic.specs.Arithmetic.{Arithmetic, generic, fusing}
-use Rattle.curves.specs.Exp.{exp_value}
-use Rattle.curves.specs.Exp2.{exp2_value}
-use Rattle.curves.specs.Exp10.{exp10_value}
-use Rattle.curves.specs.Expm1.{expm1_value}
-use Rattle.query.specs.declared.CurveName.{CurveName}
-use Rattle.query.specs.declared.CurveName.TheVariants.{Exp, Exp2, Exp10, Expm1}
-use Rattle.query.specs.declared.ArithmeticName.{ArithmeticName}
-use Rattle.query.specs.declared.ArithmeticName.TheVariants.{TwoStep, Fused}
+-- What a curve under an arithmetic stands for.
+use Rattle.std.specs.Prelude.{ℕ, List, ◌++◌, codes, from_bits, to_bits, Float}
+use Rattle.std.specs.Float.{binary32}
+use Rattle.accuracy.specs.Figures.{figure}
+use Rattle.accuracy.specs.Functions.{curve_of, word_of}
+use Rattle.query.specs.Names.{arithmetic_of, word_of_arithmetic}
+use Rattle.query.specs.declared.pair.Pair.{Pair}
 
-abbrev pub curve_of : CurveName → Arithmetic → Float → Float
-curve_of Exp = exp_value
-curve_of Exp2 = exp2_value
-curve_of Exp10 = exp10_value
-curve_of Expm1 = expm1_value
+-- the curve's value under the arithmetic
+abbrev pub value_of : Pair → Float → Float
+value_of p = figure (curve_of p.curve) (arithmetic_of p.arithmetic)
 
-abbrev pub arithmetic_of : ArithmeticName → Arithmetic
-arithmetic_of TwoStep = generic
-arithmetic_of Fused = fusing
+-- the two words, with a space between them
+abbrev pub words_of : Pair → List ℕ
+words_of p = word_of p.curve ++ (codes " " ++ word_of_arithmetic p.arithmetic)
 
--- the word of each name
-abbrev pub word_of_curve : CurveName → List ℕ
-word_of_curve Exp = codes "exp"
-word_of_curve Exp2 = codes "exp2"
-word_of_curve Exp10 = codes "exp10"
-word_of_curve Expm1 = codes "expm1"
-
-abbrev pub word_of_arithmetic : ArithmeticName → List ℕ
-word_of_arithmetic TwoStep = codes "two-step"
-word_of_arithmetic Fused = codes "fused"
-
--- r is the name that the word spells, and there is none where it spells none
-abbrev pub Spelt : {A : Type 0} → (A → List ℕ) → List ℕ → Option A → Type 0
-Spelt {A} word w None = (a : A) → w ≢ word a
-Spelt word w (Some a) = w ≡ word a
+-- the pattern of a curve's value at the f32 of a pattern; a NaN is written 0x7fc00000
+abbrev pub answer : (Float → Float) → ℕ → ℕ
+answer f b = to_bits binary32 (f (from_bits binary32 b))

@@ -1,8 +1,7 @@
 -- What is said of a line of the list.
 use Rattle.std.specs.Prelude.{◌≡◌, ℕ, ◌+◌, ◌≤◌, min, ◌≢◌}
-use Rattle.export.specs.Answers.{answer}
-use Rattle.query.specs.declared.CurveName.TheVariants.{Exp10}
-use Rattle.query.specs.Meaning.{curve_of, arithmetic_of}
+use Rattle.accuracy.specs.declared.function.Function.TheVariants.{Exp10}
+use Rattle.query.specs.Meaning.{answer, value_of}
 use Rattle.replay.specs.declared.line.Recorded.{Recorded}
 use Rattle.replay.specs.declared.judge.Verdict.{Verdict}
 use Rattle.replay.specs.declared.judge.Verdict.TheVariants.{Equal, Known, Different}
@@ -10,11 +9,11 @@ use Rattle.replay.specs.declared.tally.Tally.{Tally}
 
 -- our answer to the line's pattern
 abbrev pub ours : Recorded → ℕ
-ours line = answer (curve_of line.curve (arithmetic_of line.arithmetic)) line.pattern
+ours line = answer (value_of line.pair) line.pattern
 
 -- exp10 near one, where the crate's answer is not the nearest
 abbrev pub NearOne : Recorded → Type 0
-NearOne line = (line.curve ≡ Exp10) × (0xb25e5bbb ≤ line.pattern) × (line.pattern ≤ 0xb25e5bd9)
+NearOne line = (line.pair.curve ≡ Exp10) × (0xb25e5bbb ≤ line.pattern) × (line.pattern ≤ 0xb25e5bd9)
 
 abbrev pub Judged : Recorded → Verdict → Type 0
 Judged line Equal = ours line ≡ line.theirs

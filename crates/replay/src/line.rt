@@ -1,14 +1,16 @@
 // One line of the list: a curve, an arithmetic, a pattern and the answer that was recorded.
 ghost use Rattle.std.specs.Prelude.{◌≡◌, IfOk};
-ghost use Rattle.query.specs.Meaning.{word_of_curve, word_of_arithmetic};
+ghost use Rattle.accuracy.specs.Functions.{word_of};
+ghost use Rattle.query.specs.Names.{word_of_arithmetic};
+ghost use Rattle.query.specs.Pattern.{pattern_of};
+ghost use Rattle.replay.specs.declared.line.Mistake.TheVariants.{Name};
 
-use query::{ArithmeticName, CurveName};
+use query::{Pair, UnknownName};
 use std::fmt;
 
 #[derive(Clone, Copy)]
 pub struct Recorded {
-    pub curve: CurveName,
-    pub arithmetic: ArithmeticName,
+    pub pair: Pair,
     pub pattern: u32,
     pub theirs: u32,
 }
@@ -17,8 +19,7 @@ pub struct Recorded {
 pub enum Mistake<'a> {
     NotText,
     Words,
-    UnknownCurve(&'a str),
-    UnknownArithmetic(&'a str),
+    Name(UnknownName<'a>),
     UnknownPattern(&'a str),
 }
 
@@ -27,8 +28,7 @@ impl fmt::Display for Mistake<'_> {
         match self {
             Mistake::NotText => write!(f, "not text: a line is CURVE ARITHMETIC PATTERN ANSWER"),
             Mistake::Words => write!(f, "a line has four words, CURVE ARITHMETIC PATTERN ANSWER"),
-            Mistake::UnknownCurve(w) => write!(f, "no curve `{w}`: exp, exp2, exp10 or expm1"),
-            Mistake::UnknownArithmetic(w) => write!(f, "no arithmetic `{w}`: two-step or fused"),
+            Mistake::Name(name) => write!(f, "{name}"),
             Mistake::UnknownPattern(w) => write!(
                 f,
                 "no pattern `{w}`: 0x and up to eight hexadecimal digits"
@@ -37,27 +37,18 @@ impl fmt::Display for Mistake<'_> {
     }
 }
 
-// The 32 bits that the hexadecimal digits write.
-fn read_digits(digits: &str) -> Option<u32> {
-    for b in digits.bytes() {
-        if !b.is_ascii_hexdigit() {
-            return None;
-        }
-    }
-    match u32::from_str_radix(digits, 16) {
-        Ok(n) => Some(n),
-        Err(_) => None,
+impl<'a> From<UnknownName<'a>> for Mistake<'a> {
+    ghost from_gives = { λ name m. m ≡ Name name };
+
+    fn from(name: UnknownName<'a>) -> Mistake<'a> {
+        Mistake::Name(name)
     }
 }
 
-fn read_pattern(word: &str) -> Result<u32, Mistake<'_>> {
-    let Some(digits) = word.strip_prefix("0x") else {
-        return Err(Mistake::UnknownPattern(word));
-    };
-    match read_digits(digits) {
-        Some(pattern) => Ok(pattern),
-        None => Err(Mistake::UnknownPattern(word)),
-    }
+fn read_pattern(word: &str) -> Result<u32, Mistake<'_>>
+    ensures { IfOk result (λ n. n ≡ pattern_of word.now) }
+{
+    query::read_pattern(word).ok_or(Mistake::UnknownPattern(word))
 }
 
 fn read_words<'a>(
@@ -66,17 +57,11 @@ fn read_words<'a>(
     pattern: &'a str,
     theirs: &'a str,
 ) -> Result<Recorded, Mistake<'a>>
-    ensures { IfOk result (λ line. (curve.now ≡ word_of_curve line.curve) × (arithmetic.now ≡ word_of_arithmetic line.arithmetic)) }
+    ensures names { IfOk result (λ line. (curve.now ≡ word_of line.pair.curve) × (arithmetic.now ≡ word_of_arithmetic line.pair.arithmetic)) }
+    ensures patterns { IfOk result (λ line. (line.pattern ≡ pattern_of pattern.now) × (line.theirs ≡ pattern_of theirs.now)) }
 {
-    let Some(curve_name) = CurveName::read(curve) else {
-        return Err(Mistake::UnknownCurve(curve));
-    };
-    let Some(arithmetic_name) = ArithmeticName::read(arithmetic) else {
-        return Err(Mistake::UnknownArithmetic(arithmetic));
-    };
     Ok(Recorded {
-        curve: curve_name,
-        arithmetic: arithmetic_name,
+        pair: Pair::from_words(curve, arithmetic)?,
         pattern: read_pattern(pattern)?,
         theirs: read_pattern(theirs)?,
     })
@@ -97,8 +82,6 @@ fn read_text(line: &str) -> Result<Recorded, Mistake<'_>> {
 }
 
 pub fn read_bytes(line: &[u8]) -> Result<Recorded, Mistake<'_>> {
-    match std::str::from_utf8(line) {
-        Ok(text) => read_text(text),
-        Err(_) => Err(Mistake::NotText),
-    }
+    let text = std::str::from_utf8(line).map_err(|_| Mistake::NotText)?;
+    read_text(text)
 }

@@ -11,7 +11,7 @@ use judge::{Verdict, judge_line};
 use line::{Recorded, read_bytes};
 use std::io::{BufRead, BufReader, BufWriter, Write};
 use std::{env, io};
-use tally::{Pair, Tally, add_to, tallies};
+use tally::{add_to, tallies};
 
 const HELP: &str = "replay: a list of the crate's answers beside ours
 
@@ -33,69 +33,50 @@ fn write_difference(
     ours: u32,
     note: &str,
 ) -> io::Result<()> {
-    let pair = Pair {
-        curve: line.curve,
-        arithmetic: line.arithmetic,
-    };
-    let pattern = line.pattern;
-    let theirs = line.theirs;
+    let Recorded {
+        pair,
+        pattern,
+        theirs,
+    } = line;
     writeln!(
         out,
         "line {number}: {pair} at {pattern:#010x}: ours {ours:#010x}, the crate's {theirs:#010x}{note}"
     )
 }
 
-// Judges one line; false where it cannot be read.
-fn replay_line(
+fn write_verdict(
     out: &mut impl Write,
-    all: &mut [Tally],
     number: u64,
-    text: &[u8],
-) -> io::Result<bool> {
-    match read_bytes(text) {
-        Ok(line) => {
-            let verdict = judge_line(line);
-            add_to(
-                all,
-                Pair {
-                    curve: line.curve,
-                    arithmetic: line.arithmetic,
-                },
-                verdict,
-            );
-            match verdict {
-                Verdict::Equal => {}
-                Verdict::Known(ours) => write_difference(
-                    out,
-                    number,
-                    line,
-                    ours,
-                    ", as expected near one",
-                )?,
-                Verdict::Different(ours) => write_difference(out, number, line, ours, "")?,
-            }
-            Ok(true)
-        }
-        Err(m) => {
-            writeln!(out, "error: line {number}: {m}")?;
-            Ok(false)
-        }
+    line: Recorded,
+    verdict: Verdict,
+) -> io::Result<()> {
+    match verdict {
+        Verdict::Equal => Ok(()),
+        Verdict::Known(ours) => write_difference(out, number, line, ours, ", as expected near one"),
+        Verdict::Different(ours) => write_difference(out, number, line, ours, ""),
     }
 }
 
 // Judges every line and writes the summary; how many lines differ as they should not or cannot be read.
 fn replay_all(rt: &HostRuntime) -> io::Result<u64> {
     let mut out = BufWriter::new(rt.alloc(), rt.stdout())?;
-    let mut all = tallies(rt.alloc())?;
-    let mut number = 0u64;
+    let lines = BufReader::new(rt.alloc(), rt.stdin())?.split(rt.alloc(), b'\n');
+    let mut all = tallies();
     let mut wrong = 0u64;
-    for text in BufReader::new(rt.alloc(), rt.stdin())?.split(rt.alloc(), b'\n') {
-        number = number.saturating_add(1);
-        if !replay_line(&mut out, all.as_mut_slice(), number, &text?)? {
-            wrong = wrong.saturating_add(1);
+    for (number, text) in (1u64..).zip(lines) {
+        match read_bytes(&text?) {
+            Ok(line) => {
+                let verdict = judge_line(line);
+                add_to(&mut all, line.pair, verdict);
+                write_verdict(&mut out, number, line, verdict)?;
+            }
+            Err(m) => {
+                writeln!(out, "error: line {number}: {m}")?;
+                wrong = wrong.saturating_add(1);
+            }
         }
     }
-    for tally in all.iter() {
+    for tally in all.iter().flatten() {
         writeln!(out, "{tally}")?;
         wrong = wrong.saturating_add(tally.wrong());
     }
@@ -105,12 +86,11 @@ fn replay_all(rt: &HostRuntime) -> io::Result<u64> {
 }
 
 fn wants_help(rt: &HostRuntime) -> io::Result<bool> {
-    for word in env::args(rt)?.skip(1) {
-        if word.as_str() == "--help" || word.as_str() == "-h" {
-            return Ok(true);
-        }
-    }
-    Ok(false)
+    Ok(
+        env::args(rt)?
+            .skip(1)
+            .any(|word| word.as_str() == "--help" || word.as_str() == "-h"),
+    )
 }
 
 fn run(rt: &HostRuntime) -> anyhow::Result<()> {

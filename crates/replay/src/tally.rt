@@ -1,47 +1,11 @@
 // How many lines there were for each curve and arithmetic, and how they compared.
 ghost use Rattle.std.specs.Prelude.{◌≡◌};
-ghost use Rattle.query.specs.Meaning.{word_of_curve, word_of_arithmetic};
 ghost use Rattle.replay.specs.Judged.{tallied};
 
 use crate::judge::Verdict;
-use query::{ArithmeticName, CurveName};
-use std::alloc::{AllocError, Global};
+use accuracy::function::Function;
+use query::{ArithmeticName, Pair};
 use std::fmt;
-
-fn curve_word(curve: CurveName) -> &'static str
-    ensures { result.now ≡ word_of_curve curve }
-{
-    match curve {
-        CurveName::Exp => "exp",
-        CurveName::Exp2 => "exp2",
-        CurveName::Exp10 => "exp10",
-        CurveName::Expm1 => "expm1",
-    }
-}
-
-fn arithmetic_word(arithmetic: ArithmeticName) -> &'static str
-    ensures { result.now ≡ word_of_arithmetic arithmetic }
-{
-    match arithmetic {
-        ArithmeticName::TwoStep => "two-step",
-        ArithmeticName::Fused => "fused",
-    }
-}
-
-// A curve under an arithmetic.
-#[derive(Clone, Copy)]
-pub struct Pair {
-    pub curve: CurveName,
-    pub arithmetic: ArithmeticName,
-}
-
-impl fmt::Display for Pair {
-    fn fmt<W: fmt::Write>(&self, f: &mut fmt::Formatter<W>) -> fmt::Result {
-        let curve = curve_word(self.curve);
-        let arithmetic = arithmetic_word(self.arithmetic);
-        write!(f, "{curve} {arithmetic}")
-    }
-}
 
 #[derive(Clone, Copy)]
 pub struct Tally {
@@ -101,27 +65,15 @@ impl fmt::Display for Tally {
 }
 
 // One tally for each curve and arithmetic.
-pub fn tallies(heap: Global) -> Result<Vec<Tally>, AllocError> {
-    let curves = [
-        CurveName::Exp,
-        CurveName::Exp2,
-        CurveName::Exp10,
-        CurveName::Expm1,
-    ];
-    let mut all = Vec::new(heap);
-    for curve in curves {
-        for arithmetic in [ArithmeticName::TwoStep, ArithmeticName::Fused] {
-            all.push(Tally::new(Pair { curve, arithmetic }))?;
-        }
-    }
-    Ok(all)
+pub fn tallies() -> [[Tally; 2]; 4] {
+    Function::ALL.map(|curve| {
+        ArithmeticName::ALL.map(|arithmetic| Tally::new(Pair { curve, arithmetic }))
+    })
 }
 
 // Adds the verdict to the tally of the pair.
-pub fn add_to(all: &mut [Tally], pair: Pair, verdict: Verdict) {
-    for tally in all.iter_mut() {
-        if tally.pair.curve == pair.curve && tally.pair.arithmetic == pair.arithmetic {
-            tally.add(verdict);
-        }
+pub fn add_to(all: &mut [[Tally; 2]], pair: Pair, verdict: Verdict) {
+    if let Some(tally) = all.iter_mut().flatten().find(|tally| tally.pair == pair) {
+        tally.add(verdict);
     }
 }

@@ -1,15 +1,15 @@
-use Rattle.std.proofs.Common.{◌+◌, ◌/◌, arith}
-use Rattle.export.specs.Answers.{answer}
-use Rattle.query.specs.Meaning.{curve_of, arithmetic_of}
-use Rattle.digest.proofs.Turns.{blocks-turn, blocks_end}
+use Rattle.std.proofs.Common.{◌+◌, ◌*◌, ◌/◌, ◌^◌, ◌∙◌, refl, rules}
+use Rattle.std.proofs.lemmas.Iterator.{YieldsList-from_range}
+use Rattle.std.proofs.lemmas.Iterator.Consumers.{fold_from_yields_List}
+use Rattle.query.specs.Meaning.{answer, value_of}
+use Rattle.digest.specs.Digest.{joined, block}
+use Rattle.digest.proofs.Folds.{fold_blocks}
 use Rattle.digest.proofs.fold.whole_digest.Goals as goal
 
-pub loop-number-preserved : goal.loop-number-preserved
-loop-number-preserved c =
-    blocks-turn (answer (curve_of c.args.pair.curve (arithmetic_of c.args.pair.arithmetic))) c.args.every.step
-    (16777215 / c.args.every.step + 1) 256 c.loop-number.number c.loop-number.h c.block_digest.result
-    c.join-h.result _ (omega (arith, c.loop-number-test.true)) c.block_digest.ensures c.join-h.ensures
-    c.loop-number.invariant
-
 pub returns : goal.returns
-returns c = blocks_end _ _ _ 256 c.loop-number.number c.loop-number.h _ c.loop-number-test.false c.loop-number.invariant
+returns c =
+    let g = answer (value_of c.args.pair) in
+    let step = c.args.every.step in
+    let n = 16777215 / c.args.every.step + 1 in
+    fold_from_yields_List _ (λ x k. joined x (block g step n (k * 2 ^ 24))) _ _ c.fold.ensures.ran (YieldsList-from_range 0 256 256 refl refl) (λ a x b q k. search rules)
+    ∙ fold_blocks g step n 256 0 0xcbf29ce484222325
