@@ -6,13 +6,13 @@ use Rattle.std.proofs.lemmas.List.{get_or_past, get_or-set_same, get_or-set_othe
 use Rattle.std.proofs.lemmas.Bool.{cases_eq, cases_lt}
 use Rattle.exact.specs.Exact.{Function as Curve}
 use Rattle.arithmetic.specs.Arithmetic.{Arithmetic, Lawful}
-use Rattle.accuracy.specs.Figures.{Right, Exactly, Agree, equal}
+use Rattle.accuracy.specs.Figures.{figure, Right, Exactly, Agree, equal}
 use Rattle.accuracy.specs.Theorems.{Proved}
-use Rattle.sheet.specs.declared.function.Function.{Function}
+use Rattle.accuracy.specs.declared.function.Function.{Function}
 use Rattle.sheet.specs.declared.peg.Mark.{Mark}
 use Rattle.sheet.specs.declared.peg.Mark.TheVariants.{Blank, Entered, Worked}
 use Rattle.sheet.specs.declared.peg.Peg.{Peg}
-use Rattle.sheet.specs.Functions.{curve_of, figure_of}
+use Rattle.accuracy.specs.Functions.{curve_of}
 use Rattle.sheet.specs.Pegs.{Sheet, Sound, peg, nought, blank, entered, worked}
 use Rattle.sheet.specs.Calls.{Call, Answer, Does, Finished, Laid, largest, laying, entering, working, reading, clearing, no_peg, too_many, not_finite, no_peg_to_enter, no_peg_to_clear}
 use Rattle.sheet.specs.Histories.{Given, History, Reached, laid, after, Starts, Stands, SameCalls, SameAnswers, Same, Promise, Kept}
@@ -30,7 +30,7 @@ record Ready (q : Peg) : Type 0 where
 FineAt : Mark → Peg → Type 0
 FineAt Blank q = q ≡ blank
 FineAt Entered q = Ready q × (q.figure ≡ nought)
-FineAt Worked q = (a : Arithmetic) × Lawful a × Ready q × (q.figure ≡ figure_of q.function a q.input)
+FineAt Worked q = (a : Arithmetic) × Lawful a × Ready q × (q.figure ≡ figure (curve_of q.function) a q.input)
 
 Fine : Peg → Type 0
 Fine q = FineAt q.mark q
@@ -114,7 +114,7 @@ fine_input q f = go q.mark f
 
 module _ (proved : (f : Curve) → Proved f) where
   sound : (q : Peg) → Fine q → Sound q
-  unfolding Fine FineAt figure_of
+  unfolding Fine FineAt
   sound q f = record { blank_rule = λ e. at Blank e; entered_rule = λ e. (at Entered e).1; input_rule = fine_input q f; right = λ e. right (at Worked e); exact = λ e. exact (at Worked e) }
     where
       at : (m : Mark) → q.mark ≡ m → FineAt m q
@@ -131,7 +131,7 @@ module _ (proved : (f : Curve) → Proved f) where
   stands {t = t} r = let z = reached_size r in record { some_peg = z.0; not_too_many = z.1; told = reached_told r; sound = λ k _. sound (peg t k) (reached_all r k) }
 
   figures : (q r : Peg) → TwinPeg q r → Fine q → Fine r → Agree (curve_of q.function) q.input q.figure r.figure
-  unfolding Fine FineAt figure_of
+  unfolding Fine FineAt
   figures q r w f g = go q.mark f (subst (λ m. FineAt m r) (sym w.marks) g)
     where
       go : (m : Mark) → FineAt m q → FineAt m r → Agree (curve_of q.function) q.input q.figure r.figure
@@ -139,9 +139,9 @@ module _ (proved : (f : Curve) → Proved f) where
       go Entered x y = equal (x.1 ∙ sym y.1)
       go Worked x y =
           let c = curve_of q.function in
-          let fy : r.figure ≡ figure_of q.function y.0 q.input = y.3 ∙ ap (λ h. figure_of h y.0 r.input) (sym w.functions) ∙ ap (figure_of q.function y.0) (sym w.inputs) in
+          let fy : r.figure ≡ figure c y.0 q.input = y.3 ∙ ap (λ h. figure (curve_of h) y.0 r.input) (sym w.functions) ∙ ap (figure c y.0) (sym w.inputs) in
           subst (Agree c q.input q.figure) (sym fy)
-          (subst (λ u. Agree c q.input u (figure_of q.function y.0 q.input)) (sym x.3) ((proved c).agrees x.0 y.0 x.1 y.1 q.input x.2.held x.2.number))
+          (subst (λ u. Agree c q.input u (figure c y.0 q.input)) (sym x.3) ((proved c).agrees x.0 y.0 x.1 y.1 q.input x.2.held x.2.number))
 
   pub twins : {g h : History} {s t : Sheet} → Reached g s → Reached h t → SameCalls g h → length s ≡ length t → Twin s t × SameAnswers g h
   unfolding All

@@ -9,7 +9,7 @@ use Rattle.sheet.specs.declared.fault.Fault.TheVariants.{SheetSize, PartRange, F
 use Rattle.sheet.specs.declared.peg.Mark.{Mark}
 use Rattle.sheet.specs.declared.peg.Mark.TheVariants.{Blank, Entered, Worked}
 use Rattle.sheet.specs.declared.peg.Peg.{Peg}
-use Rattle.sheet.specs.Functions.{last_code}
+use Rattle.accuracy.specs.Functions.{last_code}
 use Rattle.sheet.specs.Pegs.{Sheet, peg, blank, entered, worked}
 use Rattle.sheet.specs.Calls.{Call, Answer, Does, entries, largest, laying, entering, working, reading, clearing}
 use Rattle.sheet.proofs.Names.{cases_entered, blank_not_entered, entered_not_blank, worked_not_blank, decode, cases_T}

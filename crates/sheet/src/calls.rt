@@ -5,8 +5,8 @@ ghost use Rattle.sheet.specs.Calls.{Does, AllBlank, Turned, Sized, laying, enter
 ghost use Rattle.sheet.specs.Histories.{Kept, Starts};
 
 use crate::fault::Fault;
-use crate::function::Function;
 use crate::peg::{Mark, Peg};
+use accuracy::function::Function;
 use arithmetic::ExpfBackend;
 
 const LARGEST: usize = 4096;
@@ -73,7 +73,7 @@ pub fn enter(sheet: &mut [Peg], peg: u16, code: u8, input: f32) -> Result<u32, F
     ensures does { Does sheet.old (entering peg code input) result sheet.new }
     ensures kept { Kept sheet.old (entering peg code input) result sheet.new }
 {
-    let function = Function::of_code(code)?;
+    let function = Function::try_from(code)?;
     must_be_finite(input)?;
     let found = find(sheet, peg)?;
     match found.mark() {

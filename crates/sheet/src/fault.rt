@@ -1,6 +1,9 @@
 // Why a call is refused.
 ghost use Rattle.std.specs.Prelude.{◌≡◌};
 ghost use Rattle.sheet.specs.Faults.{number_of, OnlyFault};
+ghost use Rattle.sheet.specs.declared.fault.Fault.TheVariants.{FunctionCode};
+
+use accuracy::function::UnknownCode;
 
 #[derive(Clone, Copy, Debug, PartialEq, Eq)]
 pub enum Fault {
@@ -24,5 +27,13 @@ impl Fault {
         ensures only { OnlyFault self result }
     {
         self as u8
+    }
+}
+
+impl From<UnknownCode> for Fault {
+    ghost from_gives = { λ _ e. e ≡ FunctionCode };
+
+    fn from(_: UnknownCode) -> Fault {
+        Fault::FunctionCode
     }
 }

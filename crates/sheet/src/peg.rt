@@ -3,7 +3,7 @@ ghost use Rattle.std.specs.Prelude.{◌≡◌, to_bits};
 ghost use Rattle.std.specs.Float.{binary32};
 ghost use Rattle.sheet.specs.Pegs.{blank, entered, worked};
 
-use crate::function::Function;
+use accuracy::function::Function;
 use arithmetic::ExpfBackend;
 use std::num::f32_to_bits_with_nan;
 

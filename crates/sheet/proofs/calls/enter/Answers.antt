@@ -2,7 +2,7 @@ use Rattle.std.proofs.Common.{◌≤◌, T, set, Ok, Err, sym, refl, ap, ◌∙�
 use lib.Ieee.Scale.{finite}
 use Rattle.std.proofs.lemmas.Result.{err_from_is_err_and}
 use Rattle.sheet.specs.declared.fault.Fault.TheVariants.{FunctionCode, InputNotFinite, PegNumber}
-use Rattle.sheet.specs.Functions.{last_code}
+use Rattle.accuracy.specs.Functions.{last_code}
 use Rattle.sheet.specs.Calls.{entering}
 use Rattle.sheet.proofs.Names.{marked, marked_again, code_low, finite_is, holds, fails}
 use Rattle.sheet.proofs.Lines.{enter_code, enter_input, enter_number, enter_again, enter_passes}
@@ -12,7 +12,7 @@ use Rattle.sheet.proofs.calls.enter.Goals as goal
 pub returns-in_err-function : goal.returns-in_err-function
 returns-in_err-function c =
     let p = err_from_is_err_and c.from_residual.result c.from_residual.ensures.1 in
-    refused _ _ _ FunctionCode (p.1 ∙ ap Err (p.2 ∙ c.in_err-function.ensures.1)) (holds _ c.well_formed.1.1.1.0.1) (enter_code _ _ _ _ c.in_err-function.ensures.0)
+    refused _ _ _ FunctionCode (p.1 ∙ ap Err p.2) (holds _ c.well_formed.1.1.1.0.1) (enter_code _ _ _ _ c.in_err-function.ensures)
 
 pub returns-in_err-must_be_finite : goal.returns-in_err-must_be_finite
 returns-in_err-must_be_finite c =
