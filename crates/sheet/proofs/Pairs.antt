@@ -1,7 +1,8 @@
 -- Two sheets with equal functions, inputs and marks: the same call answers alike and leaves two such sheets. So a call has one answer.
-use Rattle.std.proofs.Common.{◌≡◌, ℕ, zero, suc, ◌<◌, ◌≤◌, [], ◌∷◌, length, get_or, take, drop, set, Ok, Err, sym, refl, ap, ◌∙◌, subst, inl, inr, ⊎_elim, arith}
+use Rattle.std.proofs.Common.{cond, ◌≡◌, ℕ, zero, suc, ◌<◌, ◌≤◌, [], ◌∷◌, length, get_or, take, drop, set, Ok, Err, sym, refl, ap, ◌∙◌, subst, inl, inr, ⊎_elim, arith}
 use lib.Ieee.{Float}
 use Rattle.std.proofs.lemmas.List.{get_or_default, get_or_past, get_or-set_same, get_or-set_other, length-set, same_lists}
+use Rattle.std.proofs.lemmas.List.Sums.{sum_by-cons}
 use Rattle.std.proofs.lemmas.Bool.{cases_eq, cases_lt, cases_order}
 use Rattle.arithmetic.specs.Arithmetic.{Arithmetic}
 use Rattle.accuracy.specs.Figures.{Agree}
@@ -94,9 +95,10 @@ entries_twin zero (suc n) [] [] e w = refl
 entries_twin zero (suc n) [] (r ∷ t) e w = absurd (omega arith)
 entries_twin zero (suc n) (q ∷ s) [] e w = absurd (omega arith)
 entries_twin zero (suc n) (q ∷ s) (r ∷ t) e w =
-    let here : is_entered q.mark ≡ is_entered r.mark = ap is_entered (w 0).marks in
+    let entered : Peg → ℕ = λ p. cond (is_entered p.mark) 1 0 in
+    let here : entered q ≡ entered r = ap (λ m. cond (is_entered m) 1 0) (w 0).marks in
     let rest : entries (take n s) ≡ entries (take n t) = entries_twin zero n s t (omega arith) (λ k. w (suc k)) in
-    omega arith
+    omega (arith, sum_by-cons entered q (take n s), sum_by-cons entered r (take n t))
 entries_twin (suc f) n [] [] e w = refl
 entries_twin (suc f) n [] (r ∷ t) e w = absurd (omega arith)
 entries_twin (suc f) n (q ∷ s) [] e w = absurd (omega arith)

@@ -7,14 +7,15 @@ use accuracy::function::Function;
 use arithmetic::ExpfBackend;
 use std::num::f32_to_bits_with_nan;
 
-#[derive(Clone, Copy)]
+#[derive(Clone, Copy, Debug, PartialEq, Eq)]
 pub enum Mark {
     Blank,
     Entered,
     Worked,
 }
 
-#[derive(Clone, Copy)]
+// A peg is a plain row with a function, an input, a figure and a mark: a blank one has code 0 and zeros.
+#[derive(Clone, Copy, Debug, PartialEq)]
 pub struct Peg {
     function: Function,
     input: f32,

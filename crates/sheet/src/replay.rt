@@ -3,7 +3,7 @@ ghost use Rattle.sheet.specs.Calls.{Does};
 ghost use Rattle.sheet.specs.Histories.{Kept, Promise};
 ghost use Rattle.sheet.specs.Lists.{call_of, Replayed, BothLaid, BothReplayed};
 
-use crate::calls::{clear, enter, lay, make_blank, read, size, work};
+use crate::calls::{clear, enter, lay, read, size, work};
 use crate::fault::Fault;
 use crate::peg::Peg;
 use arithmetic::ExpfBackend;
@@ -77,17 +77,13 @@ pub enum LayFault {
 fn lay_both(left: &mut [Peg], right: &mut [Peg]) -> Result<(u32, u32), LayFault>
     ensures { BothLaid left.old right.old result left.new right.new }
 {
-    let m = match size(left) {
-        Ok(m) => m,
-        Err(e) => return Err(LayFault::Left(e)),
-    };
-    let n = match size(right) {
-        Ok(n) => n,
-        Err(e) => return Err(LayFault::Right(e)),
-    };
-    make_blank(left);
-    make_blank(right);
-    Ok((m, n))
+    let sizes = (
+        size(left).map_err(LayFault::Left)?,
+        size(right).map_err(LayFault::Right)?,
+    );
+    left.fill(Peg::blank());
+    right.fill(Peg::blank());
+    Ok(sizes)
 }
 
 // Lays two sheets and carries out the commands of a list on both. Returns their numbers of pegs.
