@@ -7,7 +7,6 @@ use Rattle.sheet.specs.declared.peg.Mark.TheVariants.{Blank, Entered, Worked}
 use Rattle.accuracy.specs.Functions.{last_code}
 use Rattle.sheet.specs.Pegs.{Sheet, peg}
 use Rattle.sheet.specs.Calls.{Line, Refuses, Passes, largest, laying, entering, working, reading, clearing, no_peg, too_many, beyond, no_code, not_finite, no_peg_to_enter, no_peg_to_read, no_peg_to_clear, not_blank, blank_to_read, blank_to_clear, not_worked}
-use Rattle.sheet.proofs.Names.{entered_not_blank, worked_not_blank, worked_not_entered}
 
 module _ (s : Sheet) where
   -- lay
@@ -102,13 +101,13 @@ module _ (s : Sheet) where
       where
         low : (m : ℕ) → m < 11 → Line s (reading p) m → ⊥
         low m l (no_peg_to_read e) = omega arith
-        low m l (blank_to_read e) = entered_not_blank (peg s p).mark h e
+        low m l (blank_to_read e) = cc
         low m l (not_worked e) = omega arith
 
     pub read_passes : p < length s → (peg s p).mark ≡ Worked → Passes s (reading p)
     read_passes hp h n (no_peg_to_read e) = omega arith
-    read_passes hp h n (blank_to_read e) = worked_not_blank (peg s p).mark h e
-    read_passes hp h n (not_worked e) = worked_not_entered (peg s p).mark h e
+    read_passes hp h n (blank_to_read e) = cc
+    read_passes hp h n (not_worked e) = cc
 
     pub clear_number : length s ≤ p → Refuses s (clearing p) 8
     clear_number h = record { fits = no_peg_to_clear h; first = low }

@@ -13,23 +13,11 @@ use Rattle.sheet.specs.Faults.{number_of}
 use Rattle.accuracy.specs.Functions.{code_of, last_code}
 use Rattle.sheet.specs.Calls.{Part}
 
-pub entered_not_blank : (m : Mark) → m ≡ Entered → m ≡ Blank → ⊥
-entered_not_blank m p q = let z : ◌≡◌ {A = ℕ} 0 1 = cc in omega arith
-
-pub worked_not_blank : (m : Mark) → m ≡ Worked → m ≡ Blank → ⊥
-worked_not_blank m p q = let z : ◌≡◌ {A = ℕ} 0 1 = cc in omega arith
-
-pub worked_not_entered : (m : Mark) → m ≡ Worked → m ≡ Entered → ⊥
-worked_not_entered m p q = let z : ◌≡◌ {A = ℕ} 0 1 = cc in omega arith
-
-pub blank_not_entered : (m : Mark) → m ≡ Blank → m ≡ Entered → ⊥
-blank_not_entered m p q = entered_not_blank m q p
-
 -- entered or not
 pub cases_entered : (m : Mark) → (m ≡ Entered) ⊎ (m ≡ Entered → ⊥)
-cases_entered Blank = inr (blank_not_entered Blank refl)
+cases_entered Blank = inr (λ e. cc)
 cases_entered Entered = inl refl
-cases_entered Worked = inr (worked_not_entered Worked refl)
+cases_entered Worked = inr (λ e. cc)
 
 -- in the part or not
 pub cases_in : (f n k : ℕ) → Part f n k ⊎ (Part f n k → ⊥)

@@ -1,7 +1,8 @@
 -- Two sheets with equal functions, inputs and marks: the same call answers alike and leaves two such sheets. So a call has one answer.
-use Rattle.std.proofs.Common.{cond, ◌≡◌, ℕ, zero, suc, ◌<◌, ◌≤◌, [], ◌∷◌, length, get_or, take, drop, set, Ok, Err, sym, refl, ap, ◌∙◌, subst, inl, inr, ⊎_elim, arith}
+use Rattle.std.proofs.Common.{cond, ◌≡◌, ℕ, zero, suc, ◌<◌, [], ◌∷◌, length, get_or, take, drop, set, Ok, Err, sym, refl, ap, ◌∙◌, subst, inl, inr, ⊎_elim, arith}
 use lib.Ieee.{Float}
 use Rattle.std.proofs.lemmas.List.{get_or_default, get_or_past, get_or-set_same, get_or-set_other, length-set, same_lists}
+use Rattle.std.proofs.Math.Nat.{lt_of_not-le}
 use Rattle.std.proofs.lemmas.List.Sums.{sum_by-cons}
 use Rattle.std.proofs.lemmas.Bool.{cases_eq, cases_lt, cases_order}
 use Rattle.arithmetic.specs.Arithmetic.{Arithmetic}
@@ -63,9 +64,6 @@ same_refl (entering p c x) = refl
 same_refl (working f n a) = (a, refl)
 same_refl (reading p) = refl
 same_refl (clearing p) = refl
-
-pub within : (s : Sheet) (p : ℕ) → (length s ≤ p → ⊥) → p < length s
-within s p h = ⊎_elim (λ e. e) (λ g. absurd (h g)) (cases_lt p (length s))
 
 -- a line fits by the marks and the number of pegs alone
 line_twin : {s t : Sheet} {c d : Call} {n : ℕ} → Twin s t → SameCall c d → Line s c n → Line t d n
@@ -142,7 +140,7 @@ effects_twin s t s' t' laying d v w z near e pass x y =
     record { sheets = both_blank s t s' t' v w z.size x y'; answers = inl (ap Ok (x.number ∙ z.size ∙ sym y'.number)) }
 effects_twin s t s' t' (entering p c i) d v w z near e pass x y =
     let y' : Enters s' p c i w t' = subst (λ q. Effect s' q w t') e y in
-    both_entered s t s' t' p c v w i (within s p (λ h. pass 8 (no_peg_to_enter h))) z x y'
+    both_entered s t s' t' p c v w i (lt_of_not-le (λ h. pass 8 (no_peg_to_enter h))) z x y'
 effects_twin s t s' t' (working f n a) d v w z near e pass x y =
     let y' : Finished s' f n e.0 w t' = subst (λ q. Effect s' q w t') e.1 y in
     record { sheets = both_worked s t s' t' f n v w a e.0 z x y'; answers = inl (ap Ok (x.number ∙ entries_twin f n s s' z.size z.pegs ∙ sym y'.number)) }
@@ -151,7 +149,7 @@ effects_twin s t s' t' (reading p) d v w z near e pass x y =
     paired_at x.0 y'.0 (record { sheets = z; answers = inr (record { number = p; call = refl; function = (peg s p).function; input = (peg s p).input; one = (peg s p).figure; other = (peg s' p).figure; agree = near p; one_answer = ap Ok x.1; other_answer = ap Ok y'.1 }) })
 effects_twin s t s' t' (clearing p) d v w z near e pass x y =
     let y' : Effect s' (clearing p) w t' = subst (λ q. Effect s' q w t') e y in
-    paired_at x.0 y'.0 (record { sheets = twin_set s s' p blank (within s p (λ h. pass 8 (no_peg_to_clear h))) z; answers = inl (ap Ok (x.1 ∙ sym y'.1)) })
+    paired_at x.0 y'.0 (record { sheets = twin_set s s' p blank (lt_of_not-le (λ h. pass 8 (no_peg_to_clear h))) z; answers = inl (ap Ok (x.1 ∙ sym y'.1)) })
 
 pub does_twin : (s t s' t' : Sheet) (c d : Call) (a b : Answer) → Twin s s' → Near s s' → SameCall c d → Does s c a t → Does s' d b t' → Paired t c a t' b
 does_twin s t s' t' c d (Ok v) (Ok w) z near e x y = effects_twin s t s' t' c d v w z near e x.0 x.1 y.1

@@ -3,6 +3,7 @@ use Rattle.std.proofs.Common.{◌≡◌, ℕ, ◌<◌, ◌≤◌, T, ◌⊎◌, 
 use lib.Ieee.{Float, binary32, fits, of_bits, of_fields, odd}
 use lib.Ieee.Scale.{finite}
 use Rattle.std.proofs.lemmas.List.{get_or_past, get_or-set_same, get_or-set_other}
+use Rattle.std.proofs.Math.Nat.{lt_of_not-le}
 use Rattle.std.proofs.lemmas.Bool.{cases_eq, cases_lt}
 use Rattle.exact.specs.Exact.{Function as Curve}
 use Rattle.arithmetic.specs.Arithmetic.{Arithmetic, Lawful}
@@ -18,7 +19,7 @@ use Rattle.sheet.specs.Calls.{Call, Answer, Does, Finished, Laid, largest, layin
 use Rattle.sheet.specs.Histories.{Given, History, Reached, laid, after, Starts, Stands, SameCalls, SameAnswers, Same, Promise, Kept}
 use Rattle.sheet.proofs.Names.{cases_part, cases_T}
 use Rattle.sheet.proofs.Total.{some}
-use Rattle.sheet.proofs.Pairs.{TwinPeg, Twin, Near, within, both_blank, does_twin, does_size, does_once}
+use Rattle.sheet.proofs.Pairs.{TwinPeg, Twin, Near, both_blank, does_twin, does_size, does_once}
 use Rattle.sheet.proofs.Stories.{reached_told, tells_one}
 
 -- ---- what holds of each peg of a sheet that is reached
@@ -74,10 +75,10 @@ all_kept s t c (Err e) g d f = subst All (sym d.1) f
 all_kept s t laying (Ok v) g d f = all_blank s t v d.1
 all_kept s t (entering p c x) (Ok v) g d f =
     subst All (sym d.1.sheet)
-    (all_set s p (entered d.1.function x) (within s p (λ h. d.0 8 (no_peg_to_enter h))) (fine_entered d.1.function x (holds_of x (λ h. d.0 7 (not_finite h))) g) f)
+    (all_set s p (entered d.1.function x) (lt_of_not-le (λ h. d.0 8 (no_peg_to_enter h))) (fine_entered d.1.function x (holds_of x (λ h. d.0 7 (not_finite h))) g) f)
 all_kept s t (working p n a) (Ok v) g d f = all_worked s t p n v a g d.1 f
 all_kept s t (reading p) (Ok v) g d f = subst All (sym d.1.0) f
-all_kept s t (clearing p) (Ok v) g d f = subst All (sym d.1.0) (all_set s p blank (within s p (λ h. d.0 8 (no_peg_to_clear h))) fine_blank f)
+all_kept s t (clearing p) (Ok v) g d f = subst All (sym d.1.0) (all_set s p blank (lt_of_not-le (λ h. d.0 8 (no_peg_to_clear h))) fine_blank f)
 
 reached_all : {h : History} {t : Sheet} → Reached h t → All t
 reached_all (laid {s = s} {t = t} {n = n} d) = all_blank s t n d.1

@@ -1,6 +1,7 @@
 -- Each peg of a sheet that is reached is as the history tells it.
 use Rattle.std.proofs.Common.{◌≡◌, ℕ, ◌<◌, ◌⊎◌, [], ◌∷◌, length, set, Ok, Err, sym, refl, ap, ◌∙◌, subst, inl, inr, ⊎_elim, arith}
 use Rattle.std.proofs.lemmas.List.{get_or-set_same, get_or-set_other, length-set}
+use Rattle.std.proofs.Math.Nat.{lt_of_not-le}
 use Rattle.std.proofs.lemmas.Bool.{cases_eq}
 use Rattle.accuracy.specs.declared.function.Function.{Function}
 use Rattle.sheet.specs.declared.peg.Mark.TheVariants.{Entered}
@@ -10,7 +11,6 @@ use Rattle.sheet.specs.Pegs.{Sheet, peg, blank, entered, worked}
 use Rattle.sheet.specs.Calls.{Call, Answer, Does, Part, laying, entering, working, reading, clearing, no_peg_to_enter, no_peg_to_clear}
 use Rattle.sheet.specs.Histories.{History, Reached, laid, after, Tells, at_first, by_lay, by_clear, by_enter, by_work, past_refusal, past_read, past_clear, past_enter, past_work}
 use Rattle.sheet.proofs.Names.{cases_part, function_one}
-use Rattle.sheet.proofs.Pairs.{within}
 
 abbrev Told : History → Sheet → Type 0
 Told h t = (k : ℕ) → k < length t → Tells h k (peg t k)
@@ -26,7 +26,7 @@ told_more s t h c (Err e) d w = subst (Told (record { call = c; answer = Err e }
 told_more s t h laying (Ok v) d w = λ k hk. subst (Tells _ k) (sym (d.1.all k hk)) by_lay
 told_more s t h (entering p c x) (Ok v) d w =
     subst (Told (record { call = entering p c x; answer = Ok v } ∷ h)) (sym d.1.sheet)
-    (told_set s h _ p (entered d.1.function x) (within s p (λ i. d.0 8 (no_peg_to_enter i))) w (by_enter d.1.function d.1.code) (λ k r z ne. past_enter z ne))
+    (told_set s h _ p (entered d.1.function x) (lt_of_not-le (λ i. d.0 8 (no_peg_to_enter i))) w (by_enter d.1.function d.1.code) (λ k r z ne. past_enter z ne))
 told_more s t h (working f n a) (Ok v) d w = each
   where
     each : (k : ℕ) → k < length t → Tells (record { call = working f n a; answer = Ok v } ∷ h) k (peg t k)
@@ -37,7 +37,7 @@ told_more s t h (working f n a) (Ok v) d w = each
 told_more s t h (reading p) (Ok v) d w = subst (Told (record { call = reading p; answer = Ok v } ∷ h)) (sym d.1.0) (λ k hk. past_read (w k hk))
 told_more s t h (clearing p) (Ok v) d w =
     subst (Told (record { call = clearing p; answer = Ok v } ∷ h)) (sym d.1.0)
-    (told_set s h _ p blank (within s p (λ i. d.0 8 (no_peg_to_clear i))) w by_clear (λ k r z ne. past_clear z ne))
+    (told_set s h _ p blank (lt_of_not-le (λ i. d.0 8 (no_peg_to_clear i))) w by_clear (λ k r z ne. past_clear z ne))
 
 pub reached_told : {h : History} {t : Sheet} → Reached h t → (k : ℕ) → k < length t → Tells h k (peg t k)
 reached_told (laid d) k hk = subst (Tells [] k) (sym (d.1.all k hk)) at_first

@@ -12,7 +12,7 @@ use Rattle.sheet.specs.declared.peg.Mark.TheVariants.{Blank, Entered, Worked}
 use Rattle.accuracy.specs.Functions.{last_code}
 use Rattle.sheet.specs.Pegs.{Sheet, peg, blank, entered}
 use Rattle.sheet.specs.Calls.{Call, Answer, Does, Laid, entries, largest, laying, entering, working, reading, clearing}
-use Rattle.sheet.proofs.Names.{entered_not_blank, worked_not_blank, decode, cases_T}
+use Rattle.sheet.proofs.Names.{decode, cases_T}
 use Rattle.sheet.proofs.Turns.{turn, finished}
 use Rattle.sheet.proofs.Lines.{lay_many, lay_none, lay_passes, work_refused, work_passes, enter_code, enter_input, enter_number, enter_again, enter_passes, read_number, read_blank, read_entered, read_passes, clear_number, clear_blank, clear_passes}
 
@@ -29,8 +29,8 @@ enter_some s p c x = code (cases_lt last_code c)
   where
     place : c ≤ last_code → T (finite x) → p < length s → (m : Mark) → (peg s p).mark ≡ m → Outcome s (entering p c x)
     place hc hx hp Blank e = let d = decode c hc in (Ok 0, set s p (entered d.0 x), (enter_passes s p c x hc hx hp e, record { function = d.0; code = d.1; sheet = refl; number = refl }))
-    place hc hx hp Entered e = (Err PegNotBlank, s, (enter_again s p c x hc hx hp (entered_not_blank (peg s p).mark e), refl))
-    place hc hx hp Worked e = (Err PegNotBlank, s, (enter_again s p c x hc hx hp (worked_not_blank (peg s p).mark e), refl))
+    place hc hx hp Entered e = (Err PegNotBlank, s, (enter_again s p c x hc hx hp (λ b. cc), refl))
+    place hc hx hp Worked e = (Err PegNotBlank, s, (enter_again s p c x hc hx hp (λ b. cc), refl))
 
     number : c ≤ last_code → T (finite x) → (p < length s) ⊎ (length s ≤ p) → Outcome s (entering p c x)
     number hc hx (inl h) = place hc hx h (peg s p).mark refl
@@ -63,8 +63,8 @@ clear_some s p = number (cases_lt p (length s))
   where
     place : p < length s → (m : Mark) → (peg s p).mark ≡ m → Outcome s (clearing p)
     place hp Blank e = (Err PegBlank, s, (clear_blank s p hp e, refl))
-    place hp Entered e = (Ok 0, set s p blank, (clear_passes s p hp (entered_not_blank (peg s p).mark e), (refl, refl)))
-    place hp Worked e = (Ok 0, set s p blank, (clear_passes s p hp (worked_not_blank (peg s p).mark e), (refl, refl)))
+    place hp Entered e = (Ok 0, set s p blank, (clear_passes s p hp (λ b. cc), (refl, refl)))
+    place hp Worked e = (Ok 0, set s p blank, (clear_passes s p hp (λ b. cc), (refl, refl)))
 
     number : (p < length s) ⊎ (length s ≤ p) → Outcome s (clearing p)
     number (inl h) = place h (peg s p).mark refl
