@@ -3,8 +3,8 @@ use Rattle.std.proofs.Common.{◌≡◌, ℕ, ◌+◌, ◌<◌, ◌≤◌, T, le
 use lib.Ieee.{Float}
 use lib.Ieee.Scale.{finite}
 use Rattle.arithmetic.specs.Arithmetic.{Arithmetic}
-use Rattle.sheet.specs.declared.peg.Mark.TheVariants.{Blank, Entered, Worked}
 use Rattle.accuracy.specs.Functions.{last_code}
+use Rattle.sheet.specs.declared.peg.Mark.TheVariants.{Blank, Entered, Worked}
 use Rattle.sheet.specs.Pegs.{Sheet, peg}
 use Rattle.sheet.specs.Calls.{Line, Refuses, Passes, largest, laying, entering, working, reading, clearing, no_peg, too_many, beyond, no_code, not_finite, no_peg_to_enter, no_peg_to_read, no_peg_to_clear, not_blank, blank_to_read, blank_to_clear, not_worked}
 

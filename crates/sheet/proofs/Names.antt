@@ -4,13 +4,13 @@ use lib.Ieee.{Float, nan, inf, fin}
 use lib.Ieee.Scale.{finite}
 use Rattle.std.specs.Float.{float_is_finite as is_finite}
 use Rattle.std.proofs.lemmas.Bool.{cases_lt}
-use Rattle.sheet.specs.declared.fault.Fault.{Fault}
 use Rattle.accuracy.specs.declared.function.Function.{Function}
 use Rattle.accuracy.specs.declared.function.Function.TheVariants.{Exp, Exp2, Exp10, Expm1}
+use Rattle.accuracy.specs.Functions.{code_of, last_code}
+use Rattle.sheet.specs.declared.fault.Fault.{Fault}
 use Rattle.sheet.specs.declared.peg.Mark.{Mark}
 use Rattle.sheet.specs.declared.peg.Mark.TheVariants.{Blank, Entered, Worked}
 use Rattle.sheet.specs.Faults.{number_of}
-use Rattle.accuracy.specs.Functions.{code_of, last_code}
 use Rattle.sheet.specs.Calls.{Part}
 
 -- entered or not

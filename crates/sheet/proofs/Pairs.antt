@@ -7,9 +7,9 @@ use Rattle.std.proofs.lemmas.List.Sums.{sum_by-cons}
 use Rattle.std.proofs.lemmas.Bool.{cases_eq, cases_lt, cases_order}
 use Rattle.arithmetic.specs.Arithmetic.{Arithmetic}
 use Rattle.accuracy.specs.Figures.{Agree}
+use Rattle.accuracy.specs.Functions.{curve_of}
 use Rattle.sheet.specs.declared.peg.Peg.{Peg}
 use Rattle.sheet.specs.Faults.{number_of}
-use Rattle.accuracy.specs.Functions.{curve_of}
 use Rattle.sheet.specs.Pegs.{Sheet, peg, blank, entered}
 use Rattle.sheet.specs.Calls.{Call, Answer, Does, Effect, Line, Refuses, Passes, Laid, Enters, Finished, entries, is_entered, laying, entering, working, reading, clearing, no_peg, too_many, beyond, no_code, not_finite, no_peg_to_enter, no_peg_to_read, no_peg_to_clear, not_blank, blank_to_read, blank_to_clear, not_worked}
 use Rattle.sheet.specs.Histories.{SameCall, SameAnswer}

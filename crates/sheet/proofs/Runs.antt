@@ -10,10 +10,10 @@ use Rattle.arithmetic.specs.Arithmetic.{Arithmetic, Lawful}
 use Rattle.accuracy.specs.Figures.{figure, Right, Exactly, Agree, equal}
 use Rattle.accuracy.specs.Theorems.{Proved}
 use Rattle.accuracy.specs.declared.function.Function.{Function}
+use Rattle.accuracy.specs.Functions.{curve_of}
 use Rattle.sheet.specs.declared.peg.Mark.{Mark}
 use Rattle.sheet.specs.declared.peg.Mark.TheVariants.{Blank, Entered, Worked}
 use Rattle.sheet.specs.declared.peg.Peg.{Peg}
-use Rattle.accuracy.specs.Functions.{curve_of}
 use Rattle.sheet.specs.Pegs.{Sheet, Sound, peg, nought, blank, entered, worked}
 use Rattle.sheet.specs.Calls.{Call, Answer, Does, Finished, Laid, largest, laying, entering, working, reading, clearing, no_peg, too_many, not_finite, no_peg_to_enter, no_peg_to_clear}
 use Rattle.sheet.specs.Histories.{Given, History, Reached, laid, after, Starts, Stands, SameCalls, SameAnswers, Same, Promise, Kept}

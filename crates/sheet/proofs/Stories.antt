@@ -4,9 +4,9 @@ use Rattle.std.proofs.lemmas.List.{get_or-set_same, get_or-set_other, length-set
 use Rattle.std.proofs.Math.Nat.{lt_of_not-le}
 use Rattle.std.proofs.lemmas.Bool.{cases_eq}
 use Rattle.accuracy.specs.declared.function.Function.{Function}
+use Rattle.accuracy.specs.Functions.{code_of}
 use Rattle.sheet.specs.declared.peg.Mark.TheVariants.{Entered}
 use Rattle.sheet.specs.declared.peg.Peg.{Peg}
-use Rattle.accuracy.specs.Functions.{code_of}
 use Rattle.sheet.specs.Pegs.{Sheet, peg, blank, entered, worked}
 use Rattle.sheet.specs.Calls.{Call, Answer, Does, Part, laying, entering, working, reading, clearing, no_peg_to_enter, no_peg_to_clear}
 use Rattle.sheet.specs.Histories.{History, Reached, laid, after, Tells, at_first, by_lay, by_clear, by_enter, by_work, past_refusal, past_read, past_clear, past_enter, past_work}

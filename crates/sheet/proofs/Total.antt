@@ -6,10 +6,10 @@ use borrow.Rule.Slice.PartMut.{put_mid}
 use Rattle.std.proofs.lemmas.List.{length-replicate, get_or-replicate}
 use Rattle.std.proofs.lemmas.Bool.{cases_lt, cases_eq}
 use Rattle.arithmetic.specs.Arithmetic.{Arithmetic}
+use Rattle.accuracy.specs.Functions.{last_code}
 use Rattle.sheet.specs.declared.fault.Fault.TheVariants.{SheetSize, PartRange, FunctionCode, InputNotFinite, PegNumber, PegNotBlank, PegBlank, PegNotWorked}
 use Rattle.sheet.specs.declared.peg.Mark.{Mark}
 use Rattle.sheet.specs.declared.peg.Mark.TheVariants.{Blank, Entered, Worked}
-use Rattle.accuracy.specs.Functions.{last_code}
 use Rattle.sheet.specs.Pegs.{Sheet, peg, blank, entered}
 use Rattle.sheet.specs.Calls.{Call, Answer, Does, Laid, entries, largest, laying, entering, working, reading, clearing}
 use Rattle.sheet.proofs.Names.{decode, cases_T}

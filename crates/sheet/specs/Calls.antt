@@ -3,12 +3,12 @@ use Rattle.std.specs.Prelude.{◌≡◌, ℕ, ◌+◌, ◌<◌, ◌≤◌, Bool,
 use Rattle.std.specs.Float.{binary32}
 use Rattle.std.specs.Float.Ieee.Scale.{finite}
 use Rattle.arithmetic.specs.Arithmetic.{Arithmetic}
-use Rattle.sheet.specs.declared.fault.Fault.{Fault}
 use Rattle.accuracy.specs.declared.function.Function.{Function}
+use Rattle.accuracy.specs.Functions.{code_of, last_code}
+use Rattle.sheet.specs.declared.fault.Fault.{Fault}
 use Rattle.sheet.specs.declared.peg.Mark.{Mark}
 use Rattle.sheet.specs.declared.peg.Mark.TheVariants.{Blank, Entered, Worked}
 use Rattle.sheet.specs.Faults.{number_of}
-use Rattle.accuracy.specs.Functions.{code_of, last_code}
 use Rattle.sheet.specs.Pegs.{Sheet, peg, blank, entered, worked}
 
 pub data Call : Type 0 where

@@ -4,13 +4,13 @@ use Rattle.std.specs.Float.Ieee.Scale.{finite}
 use Rattle.std.specs.Float.{binary32}
 use Rattle.arithmetic.specs.Arithmetic.{Arithmetic}
 use Rattle.accuracy.specs.Figures.{figure, Right, Exactly}
-use Rattle.sheet.specs.declared.fault.Fault.{Fault}
-use Rattle.sheet.specs.declared.fault.Fault.TheVariants.{PegNumber}
 use Rattle.accuracy.specs.declared.function.Function.{Function}
 use Rattle.accuracy.specs.declared.function.Function.TheVariants.{Exp}
+use Rattle.accuracy.specs.Functions.{curve_of}
+use Rattle.sheet.specs.declared.fault.Fault.{Fault}
+use Rattle.sheet.specs.declared.fault.Fault.TheVariants.{PegNumber}
 use Rattle.sheet.specs.declared.peg.Mark.TheVariants.{Blank, Entered, Worked}
 use Rattle.sheet.specs.declared.peg.Peg.{Peg}
-use Rattle.accuracy.specs.Functions.{curve_of}
 
 abbrev pub Sheet : Type 0
 Sheet = List Peg

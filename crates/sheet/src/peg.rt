@@ -14,7 +14,7 @@ pub enum Mark {
     Worked,
 }
 
-// A peg is a plain row with a function, an input, a figure and a mark: a blank one has code 0 and zeros.
+// The project's rules make a peg a plain row with a function, an input, a figure and a mark, where a blank one has code 0 and zeros.
 #[derive(Clone, Copy, Debug, PartialEq)]
 pub struct Peg {
     function: Function,

@@ -14,7 +14,7 @@ pub fn promise_holds()
 {}
 
 // A call, but for the sheet and the arithmetic that it is made with.
-#[derive(Clone, Copy)]
+#[derive(Clone, Copy, Debug, PartialEq)]
 pub enum Command {
     Lay,
     Enter { peg: u16, code: u8, input: f32 },
@@ -68,7 +68,7 @@ pub struct TwinStep<A, B> {
 }
 
 // Which of two sheets cannot be laid, and why.
-#[derive(Clone, Copy)]
+#[derive(Clone, Copy, Debug, PartialEq, Eq)]
 pub enum LayFault {
     Left(Fault),
     Right(Fault),
