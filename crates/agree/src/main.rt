@@ -33,7 +33,6 @@ fn compare(left: Result<u32, Fault>, right: Result<u32, Fault>) -> Comparison {
 
 // Says what was done, and what either answered.
 fn tell(rt: &HostRuntime, at: usize, step: &Step) -> io::Result<Comparison> {
-    let said = Said(step.command);
     let left = Told {
         command: step.command,
         answer: step.left_answer,
@@ -43,7 +42,7 @@ fn tell(rt: &HostRuntime, at: usize, step: &Step) -> io::Result<Comparison> {
         answer: step.right_answer,
     };
     let comparison = compare(step.left_answer, step.right_answer);
-    println!(rt; "{at}. {said}")?;
+    println!(rt; "{at}. {}", Said(step.command))?;
     match comparison {
         Comparison::Equal => println!(rt; "   both: {left}")?,
         Comparison::Neighbouring => println!(rt;
@@ -60,9 +59,9 @@ fn tell_all(rt: &HostRuntime, list: &[Step]) -> io::Result<()> {
     let mut apart = 0usize;
     for (at, step) in list.iter().enumerate() {
         match tell(rt, at, step)? {
-            Comparison::Equal => equal = equal.saturating_add(1),
-            Comparison::Neighbouring => neighbouring = neighbouring.saturating_add(1),
-            Comparison::Apart => apart = apart.saturating_add(1),
+            Comparison::Equal => equal += 1,
+            Comparison::Neighbouring => neighbouring += 1,
+            Comparison::Apart => apart += 1,
         }
     }
     println!(rt;

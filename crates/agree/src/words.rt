@@ -34,10 +34,7 @@ pub struct Told {
 impl fmt::Display for Told {
     fn fmt<W: fmt::Write>(&self, f: &mut fmt::Formatter<W>) -> fmt::Result {
         match self.answer {
-            Err(fault) => {
-                let number = u8::from(fault);
-                write!(f, "refused by line {number}, {fault}")
-            }
+            Err(fault) => write!(f, "refused by line {}, {fault}", u8::from(fault)),
             Ok(v) => match self.command {
                 Command::Lay => write!(f, "{v} pegs are blank"),
                 Command::Enter { .. } => write!(f, "entered"),
