@@ -1,8 +1,7 @@
 -- Every history keeps the promise, once the four curves are proved.
-use Rattle.std.proofs.Common.{◌≡◌, ℕ, ◌<◌, ◌≤◌, T, ◌⊎◌, ◌∷◌, length, get_or, set, Ok, Err, sym, refl, ap, ◌∙◌, subst, inl, inr, ⊎_elim, arith}
+use Rattle.std.proofs.Common.{◌≡◌, ℕ, ◌<◌, ◌≤◌, T, ◌⊎◌, ◌∷◌, length, set, Ok, Err, sym, refl, ap, ◌∙◌, subst, inl, inr, ⊎_elim, arith}
 use lib.Ieee.{Float, binary32, fits, of_bits, of_fields, odd}
 use lib.Ieee.Scale.{finite}
-use Rattle.std.proofs.lemmas.List.{get_or_past, get_or-set_same, get_or-set_other}
 use Rattle.std.proofs.Math.Nat.{lt_of_not-le}
 use Rattle.std.proofs.lemmas.Bool.{cases_eq, cases_lt}
 use Rattle.exact.specs.Exact.{Function as Curve}
@@ -17,7 +16,8 @@ use Rattle.sheet.specs.declared.peg.Peg.{Peg}
 use Rattle.sheet.specs.Pegs.{Sheet, Sound, peg, nought, blank, entered, worked}
 use Rattle.sheet.specs.Calls.{Call, Answer, Does, Finished, Laid, largest, laying, entering, working, reading, clearing, no_peg, too_many, not_finite, no_peg_to_enter, no_peg_to_clear}
 use Rattle.sheet.specs.Histories.{Given, History, Reached, laid, after, Starts, Stands, SameCalls, SameAnswers, Same, Promise, Kept}
-use Rattle.sheet.proofs.Names.{cases_part, cases_T}
+use Rattle.sheet.proofs.Names.{cases_T}
+use Rattle.sheet.proofs.Effects.{laid_peg, set_peg, finished_peg}
 use Rattle.sheet.proofs.Total.{some}
 use Rattle.sheet.proofs.Pairs.{TwinPeg, Twin, Near, both_blank, does_twin, does_size, does_once}
 use Rattle.sheet.proofs.Stories.{reached_told, tells_one}
@@ -53,19 +53,15 @@ All s = (k : ℕ) → Fine (peg s k)
 
 all_set : (s : Sheet) (p : ℕ) (q : Peg) → p < length s → Fine q → All s → All (set s p q)
 unfolding All
-all_set s p q hp fq f k =
-    ⊎_elim (λ e. subst Fine (sym (ap (λ i. get_or (set s p q) i blank) e ∙ get_or-set_same s p q blank hp)) fq)
-    (λ ne. subst Fine (sym (get_or-set_other s p k q blank ne)) (f k)) (cases_eq k p)
+all_set s p q hp fq f = set_peg (λ _. Fine) s p q hp fq (λ k _. f k)
 
 all_worked : (s t : Sheet) (f n v : ℕ) (a : Arithmetic) → Lawful a → Finished s f n a v t → All s → All t
 unfolding All
-all_worked s t f n v a l d g k =
-    ⊎_elim (λ i. subst Fine (sym (d.inside k i.0 i.1)) (fine_worked a l (peg s k) i.1 (g k)))
-    (λ o. subst Fine (sym (d.others k o)) (g k)) (cases_part f n k (peg s k).mark)
+all_worked s t f n v a l d g k = finished_peg Fine d k (λ _ e. fine_worked a l (peg s k) e (g k)) (λ _. g k)
 
 all_blank : (s t : Sheet) (v : ℕ) → Laid s v t → All t
 unfolding All
-all_blank s t v d k = ⊎_elim (λ h. subst Fine (sym (d.all k h)) fine_blank) (λ h. subst Fine (sym (get_or_past t k blank h)) fine_blank) (cases_lt k (length t))
+all_blank s t v d k = subst Fine (sym (laid_peg d k)) fine_blank
 
 holds_of : (x : Float) → ((T (finite x) → ⊥) → ⊥) → T (finite x)
 holds_of x h = ⊎_elim (λ t. t) (λ n. absurd (h n)) (cases_T (finite x))
