@@ -2,9 +2,7 @@
 use arithmetic::{FmaBackend, GenericExpfBackend};
 use sheet::replay::{Command, TwinStep};
 
-pub const LENGTH: usize = 26;
-
-pub const COMMANDS: [Command; LENGTH] = [
+pub const COMMANDS: [Command; 26] = [
     Command::Enter {
         peg: 0,
         code: 1,
@@ -84,12 +82,5 @@ pub fn step(command: Command) -> TwinStep<FmaBackend, GenericExpfBackend> {
         right_arith: GenericExpfBackend {},
         left_answer: Ok(0),
         right_answer: Ok(0),
-    }
-}
-
-// Writes the commands into a list.
-pub fn store(list: &mut [TwinStep<FmaBackend, GenericExpfBackend>]) {
-    for at in 0..LENGTH.min(list.len()) {
-        list[at] = step(COMMANDS[at]);
     }
 }

@@ -6,12 +6,12 @@ mod list;
 mod words;
 
 use arithmetic::{FmaBackend, GenericExpfBackend};
-use list::{LENGTH, step, store};
+use list::{COMMANDS, step};
 use sheet::fault::Fault;
 use sheet::peg::Peg;
-use sheet::replay::{Command, LayFault, TwinStep, replay_both};
+use sheet::replay::{LayFault, TwinStep, replay_both};
 use std::io;
-use words::{Said, Told, reason};
+use words::{Said, Told};
 
 type Step = TwinStep<FmaBackend, GenericExpfBackend>;
 
@@ -25,29 +25,14 @@ enum Comparison {
 
 fn compare(left: Result<u32, Fault>, right: Result<u32, Fault>) -> Comparison {
     match (left, right) {
-        (Ok(v), Ok(w)) => {
-            if v == w {
-                Comparison::Equal
-            } else if v.abs_diff(w) == 1 {
-                Comparison::Neighbouring
-            } else {
-                Comparison::Apart
-            }
-        }
-        (Err(e), Err(f)) => {
-            if e == f {
-                Comparison::Equal
-            } else {
-                Comparison::Apart
-            }
-        }
+        _ if left == right => Comparison::Equal,
+        (Ok(v), Ok(w)) if v.abs_diff(w) == 1 => Comparison::Neighbouring,
         _ => Comparison::Apart,
     }
 }
 
 // Says what was done, and what either answered.
 fn tell(rt: &HostRuntime, at: usize, step: &Step) -> io::Result<Comparison> {
-    let said = Said(step.command);
     let left = Told {
         command: step.command,
         answer: step.left_answer,
@@ -57,7 +42,7 @@ fn tell(rt: &HostRuntime, at: usize, step: &Step) -> io::Result<Comparison> {
         answer: step.right_answer,
     };
     let comparison = compare(step.left_answer, step.right_answer);
-    println!(rt; "{at}. {said}")?;
+    println!(rt; "{at}. {}", Said(step.command))?;
     match comparison {
         Comparison::Equal => println!(rt; "   both: {left}")?,
         Comparison::Neighbouring => println!(rt;
@@ -74,9 +59,9 @@ fn tell_all(rt: &HostRuntime, list: &[Step]) -> io::Result<()> {
     let mut apart = 0usize;
     for (at, step) in list.iter().enumerate() {
         match tell(rt, at, step)? {
-            Comparison::Equal => equal = equal.saturating_add(1),
-            Comparison::Neighbouring => neighbouring = neighbouring.saturating_add(1),
-            Comparison::Apart => apart = apart.saturating_add(1),
+            Comparison::Equal => equal += 1,
+            Comparison::Neighbouring => neighbouring += 1,
+            Comparison::Apart => apart += 1,
         }
     }
     println!(rt;
@@ -87,17 +72,10 @@ fn tell_all(rt: &HostRuntime, list: &[Step]) -> io::Result<()> {
 fn main(rt: HostRuntime) -> io::Result<()> {
     let mut till = [Peg::blank(); 6];
     let mut cabinet = [Peg::blank(); 6];
-    let mut list = [step(Command::Lay); LENGTH];
-    store(&mut list);
+    let mut list = COMMANDS.map(step);
     match replay_both(&mut till, &mut cabinet, &mut list) {
-        Err(LayFault::Left(fault)) => {
-            let why = reason(fault);
-            println!(rt; "The till was not laid: {why}.")
-        }
-        Err(LayFault::Right(fault)) => {
-            let why = reason(fault);
-            println!(rt; "The cabinet was not laid: {why}.")
-        }
+        Err(LayFault::Left(fault)) => println!(rt; "The till was not laid: {fault}."),
+        Err(LayFault::Right(fault)) => println!(rt; "The cabinet was not laid: {fault}."),
         Ok((m, n)) => {
             println!(rt;
                 "A till that fuses, with {m} pegs, and a cabinet that rounds twice, with {n}."

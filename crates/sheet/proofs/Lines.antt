@@ -1,13 +1,12 @@
 -- Which line is the first to fit a call, and when none does.
-use Rattle.std.proofs.Common.{◌≡◌, ℕ, ◌+◌, ◌<◌, ◌≤◌, T, length, arith}
+use Rattle.std.proofs.Common.{◌≡◌, ◌≢◌, ℕ, ◌+◌, ◌<◌, ◌≤◌, T, length, arith}
 use lib.Ieee.{Float}
 use lib.Ieee.Scale.{finite}
 use Rattle.arithmetic.specs.Arithmetic.{Arithmetic}
+use Rattle.accuracy.specs.Functions.{last_code}
 use Rattle.sheet.specs.declared.peg.Mark.TheVariants.{Blank, Entered, Worked}
-use Rattle.sheet.specs.Functions.{last_code}
 use Rattle.sheet.specs.Pegs.{Sheet, peg}
 use Rattle.sheet.specs.Calls.{Line, Refuses, Passes, largest, laying, entering, working, reading, clearing, no_peg, too_many, beyond, no_code, not_finite, no_peg_to_enter, no_peg_to_read, no_peg_to_clear, not_blank, blank_to_read, blank_to_clear, not_worked}
-use Rattle.sheet.proofs.Names.{entered_not_blank, worked_not_blank, worked_not_entered}
 
 module _ (s : Sheet) where
   -- lay
@@ -37,93 +36,56 @@ module _ (s : Sheet) where
 
   -- enter
   module _ (p c : ℕ) (x : Float) where
+    -- below n no line fits
+    enter_from : (n : ℕ) → (last_code < c → n ≤ 6) → ((T (finite x) → ⊥) → n ≤ 7) → (length s ≤ p → n ≤ 8) → ((peg s p).mark ≢ Blank → n ≤ 9) → (m : ℕ) → m < n → Line s (entering p c x) m → ⊥
+    enter_from n code input number again m l (no_code e) = omega (arith, code e)
+    enter_from n code input number again m l (not_finite e) = omega (arith, input e)
+    enter_from n code input number again m l (no_peg_to_enter e) = omega (arith, number e)
+    enter_from n code input number again m l (not_blank e) = omega (arith, again e)
+
     pub enter_code : last_code < c → Refuses s (entering p c x) 6
-    enter_code h = record { fits = no_code h; first = low }
-      where
-        low : (m : ℕ) → m < 6 → Line s (entering p c x) m → ⊥
-        low m l (no_code e) = omega arith
-        low m l (not_finite e) = omega arith
-        low m l (no_peg_to_enter e) = omega arith
-        low m l (not_blank e) = omega arith
+    enter_code h = record { fits = no_code h; first = enter_from 6 (λ _. omega arith) (λ _. omega arith) (λ _. omega arith) (λ _. omega arith) }
 
     pub enter_input : c ≤ last_code → (T (finite x) → ⊥) → Refuses s (entering p c x) 7
-    enter_input hc h = record { fits = not_finite h; first = low }
-      where
-        low : (m : ℕ) → m < 7 → Line s (entering p c x) m → ⊥
-        low m l (no_code e) = omega arith
-        low m l (not_finite e) = omega arith
-        low m l (no_peg_to_enter e) = omega arith
-        low m l (not_blank e) = omega arith
+    enter_input hc h = record { fits = not_finite h; first = enter_from 7 (λ e. omega arith) (λ _. omega arith) (λ _. omega arith) (λ _. omega arith) }
 
     pub enter_number : c ≤ last_code → T (finite x) → length s ≤ p → Refuses s (entering p c x) 8
-    enter_number hc hx h = record { fits = no_peg_to_enter h; first = low }
-      where
-        low : (m : ℕ) → m < 8 → Line s (entering p c x) m → ⊥
-        low m l (no_code e) = omega arith
-        low m l (not_finite e) = e hx
-        low m l (no_peg_to_enter e) = omega arith
-        low m l (not_blank e) = omega arith
+    enter_number hc hx h = record { fits = no_peg_to_enter h; first = enter_from 8 (λ e. omega arith) (λ e. absurd (e hx)) (λ _. omega arith) (λ _. omega arith) }
 
-    pub enter_again : c ≤ last_code → T (finite x) → p < length s → ((peg s p).mark ≡ Blank → ⊥) → Refuses s (entering p c x) 9
-    enter_again hc hx hp h = record { fits = not_blank h; first = low }
-      where
-        low : (m : ℕ) → m < 9 → Line s (entering p c x) m → ⊥
-        low m l (no_code e) = omega arith
-        low m l (not_finite e) = e hx
-        low m l (no_peg_to_enter e) = omega arith
-        low m l (not_blank e) = omega arith
+    pub enter_again : c ≤ last_code → T (finite x) → p < length s → (peg s p).mark ≢ Blank → Refuses s (entering p c x) 9
+    enter_again hc hx hp h = record { fits = not_blank h; first = enter_from 9 (λ e. omega arith) (λ e. absurd (e hx)) (λ e. omega arith) (λ _. omega arith) }
 
     pub enter_passes : c ≤ last_code → T (finite x) → p < length s → (peg s p).mark ≡ Blank → Passes s (entering p c x)
-    enter_passes hc hx hp hm n (no_code e) = omega arith
-    enter_passes hc hx hp hm n (not_finite e) = e hx
-    enter_passes hc hx hp hm n (no_peg_to_enter e) = omega arith
-    enter_passes hc hx hp hm n (not_blank e) = e hm
+    enter_passes hc hx hp hm n = enter_from (n + 1) (λ e. omega arith) (λ e. absurd (e hx)) (λ e. omega arith) (λ e. absurd (e hm)) n (omega arith)
 
   -- read and clear
   module _ (p : ℕ) where
+    read_from : (n : ℕ) → (length s ≤ p → n ≤ 8) → ((peg s p).mark ≡ Blank → n ≤ 10) → ((peg s p).mark ≡ Entered → n ≤ 11) → (m : ℕ) → m < n → Line s (reading p) m → ⊥
+    read_from n number blank entered m l (no_peg_to_read e) = omega (arith, number e)
+    read_from n number blank entered m l (blank_to_read e) = omega (arith, blank e)
+    read_from n number blank entered m l (not_worked e) = omega (arith, entered e)
+
     pub read_number : length s ≤ p → Refuses s (reading p) 8
-    read_number h = record { fits = no_peg_to_read h; first = low }
-      where
-        low : (m : ℕ) → m < 8 → Line s (reading p) m → ⊥
-        low m l (no_peg_to_read e) = omega arith
-        low m l (blank_to_read e) = omega arith
-        low m l (not_worked e) = omega arith
+    read_number h = record { fits = no_peg_to_read h; first = read_from 8 (λ _. omega arith) (λ _. omega arith) (λ _. omega arith) }
 
     pub read_blank : p < length s → (peg s p).mark ≡ Blank → Refuses s (reading p) 10
-    read_blank hp h = record { fits = blank_to_read h; first = low }
-      where
-        low : (m : ℕ) → m < 10 → Line s (reading p) m → ⊥
-        low m l (no_peg_to_read e) = omega arith
-        low m l (blank_to_read e) = omega arith
-        low m l (not_worked e) = omega arith
+    read_blank hp h = record { fits = blank_to_read h; first = read_from 10 (λ e. omega arith) (λ _. omega arith) (λ _. omega arith) }
 
     pub read_entered : p < length s → (peg s p).mark ≡ Entered → Refuses s (reading p) 11
-    read_entered hp h = record { fits = not_worked h; first = low }
-      where
-        low : (m : ℕ) → m < 11 → Line s (reading p) m → ⊥
-        low m l (no_peg_to_read e) = omega arith
-        low m l (blank_to_read e) = entered_not_blank (peg s p).mark h e
-        low m l (not_worked e) = omega arith
+    read_entered hp h = record { fits = not_worked h; first = read_from 11 (λ e. omega arith) (λ e. cc) (λ _. omega arith) }
 
     pub read_passes : p < length s → (peg s p).mark ≡ Worked → Passes s (reading p)
-    read_passes hp h n (no_peg_to_read e) = omega arith
-    read_passes hp h n (blank_to_read e) = worked_not_blank (peg s p).mark h e
-    read_passes hp h n (not_worked e) = worked_not_entered (peg s p).mark h e
+    read_passes hp h n = read_from (n + 1) (λ e. omega arith) (λ e. cc) (λ e. cc) n (omega arith)
+
+    clear_from : (n : ℕ) → (length s ≤ p → n ≤ 8) → ((peg s p).mark ≡ Blank → n ≤ 10) → (m : ℕ) → m < n → Line s (clearing p) m → ⊥
+    clear_from n number blank m l (no_peg_to_clear e) = omega (arith, number e)
+    clear_from n number blank m l (blank_to_clear e) = omega (arith, blank e)
 
     pub clear_number : length s ≤ p → Refuses s (clearing p) 8
-    clear_number h = record { fits = no_peg_to_clear h; first = low }
-      where
-        low : (m : ℕ) → m < 8 → Line s (clearing p) m → ⊥
-        low m l (no_peg_to_clear e) = omega arith
-        low m l (blank_to_clear e) = omega arith
+    clear_number h = record { fits = no_peg_to_clear h; first = clear_from 8 (λ _. omega arith) (λ _. omega arith) }
 
     pub clear_blank : p < length s → (peg s p).mark ≡ Blank → Refuses s (clearing p) 10
-    clear_blank hp h = record { fits = blank_to_clear h; first = low }
-      where
-        low : (m : ℕ) → m < 10 → Line s (clearing p) m → ⊥
-        low m l (no_peg_to_clear e) = omega arith
-        low m l (blank_to_clear e) = omega arith
+    clear_blank hp h = record { fits = blank_to_clear h; first = clear_from 10 (λ e. omega arith) (λ _. omega arith) }
 
-    pub clear_passes : p < length s → ((peg s p).mark ≡ Blank → ⊥) → Passes s (clearing p)
-    clear_passes hp h n (no_peg_to_clear e) = omega arith
-    clear_passes hp h n (blank_to_clear e) = h e
+    pub clear_passes : p < length s → (peg s p).mark ≢ Blank → Passes s (clearing p)
+    clear_passes hp h n = clear_from (n + 1) (λ e. omega arith) (λ e. absurd (h e)) n (omega arith)

@@ -1,46 +1,36 @@
 -- Marks, codes and numbers are told apart.
-use Rattle.std.proofs.Common.{◌≡◌, ℕ, zero, suc, ◌+◌, ◌<◌, ◌≤◌, Bool, true, false, T, ◌⊎◌, sym, refl, ap, ◌∙◌, subst, inl, inr, arith, rules}
+use Rattle.std.proofs.Common.{◌≡◌, ℕ, zero, suc, ◌+◌, ◌<◌, ◌≤◌, Bool, true, false, T, ◌⊎◌, sym, refl, ◌∙◌, subst, inl, inr, ⊎_elim, arith, rules}
 use lib.Ieee.{Float, nan, inf, fin}
 use lib.Ieee.Scale.{finite}
 use Rattle.std.specs.Float.{float_is_finite as is_finite}
 use Rattle.std.proofs.lemmas.Bool.{cases_lt}
+use Rattle.accuracy.specs.declared.function.Function.{Function}
+use Rattle.accuracy.specs.declared.function.Function.TheVariants.{Exp, Exp2, Exp10, Expm1}
+use Rattle.accuracy.specs.Functions.{code_of, last_code}
 use Rattle.sheet.specs.declared.fault.Fault.{Fault}
-use Rattle.sheet.specs.declared.function.Function.{Function}
-use Rattle.sheet.specs.declared.function.Function.TheVariants.{Exp, Exp2, Exp10, Expm1}
 use Rattle.sheet.specs.declared.peg.Mark.{Mark}
 use Rattle.sheet.specs.declared.peg.Mark.TheVariants.{Blank, Entered, Worked}
-use Rattle.sheet.specs.declared.peg.Peg.{Peg}
 use Rattle.sheet.specs.Faults.{number_of}
-use Rattle.sheet.specs.Functions.{code_of, last_code}
 use Rattle.sheet.specs.Calls.{Part}
-
-pub entered_not_blank : (m : Mark) → m ≡ Entered → m ≡ Blank → ⊥
-entered_not_blank m p q = let z : ◌≡◌ {A = ℕ} 0 1 = cc in omega arith
-
-pub worked_not_blank : (m : Mark) → m ≡ Worked → m ≡ Blank → ⊥
-worked_not_blank m p q = let z : ◌≡◌ {A = ℕ} 0 1 = cc in omega arith
-
-pub worked_not_entered : (m : Mark) → m ≡ Worked → m ≡ Entered → ⊥
-worked_not_entered m p q = let z : ◌≡◌ {A = ℕ} 0 1 = cc in omega arith
-
-pub blank_not_entered : (m : Mark) → m ≡ Blank → m ≡ Entered → ⊥
-blank_not_entered m p q = entered_not_blank m q p
 
 -- entered or not
 pub cases_entered : (m : Mark) → (m ≡ Entered) ⊎ (m ≡ Entered → ⊥)
-cases_entered Blank = inr (blank_not_entered Blank refl)
+cases_entered Blank = inr (λ e. cc)
 cases_entered Entered = inl refl
-cases_entered Worked = inr (worked_not_entered Worked refl)
+cases_entered Worked = inr (λ e. cc)
+
+-- in the part or not
+pub cases_in : (f n k : ℕ) → Part f n k ⊎ (Part f n k → ⊥)
+cases_in f n k = go (cases_lt k f) (cases_lt k (f + n))
+  where
+    go : (k < f) ⊎ (f ≤ k) → (k < f + n) ⊎ (f + n ≤ k) → Part f n k ⊎ (Part f n k → ⊥)
+    go (inl h) i = inr (λ p. omega (arith, p.0))
+    go (inr h) (inr i) = inr (λ p. omega (arith, p.1))
+    go (inr h) (inl i) = inl (h, i)
 
 -- an entered peg of the part, or another
 pub cases_part : (f n k : ℕ) (m : Mark) → (Part f n k × (m ≡ Entered)) ⊎ (Part f n k → m ≡ Entered → ⊥)
-cases_part f n k m = go (cases_lt k f) (cases_lt k (f + n)) (cases_entered m)
-  where
-    go : (k < f) ⊎ (f ≤ k) → (k < f + n) ⊎ (f + n ≤ k) → (m ≡ Entered) ⊎ (m ≡ Entered → ⊥) → (Part f n k × (m ≡ Entered)) ⊎ (Part f n k → m ≡ Entered → ⊥)
-    go (inl h) i e = inr (λ p _. omega (arith, p.0))
-    go (inr h) (inr i) e = inr (λ p _. omega (arith, p.1))
-    go (inr h) (inl i) (inl e) = inl ((h, i), e)
-    go (inr h) (inl i) (inr e) = inr (λ _ q. e q)
+cases_part f n k m = ⊎_elim (λ i. ⊎_elim (λ e. inl (i, e)) (λ ne. inr (λ _. ne)) (cases_entered m)) (λ out. inr (λ i. absurd (out i))) (cases_in f n k)
 
 pub fault_one : (d e : Fault) → number_of d ≡ number_of e → d ≡ e
 fault_one d e h = search rules
@@ -56,33 +46,25 @@ decode (suc (suc zero)) h = (Exp10, refl)
 decode (suc (suc (suc zero))) h = (Expm1, refl)
 decode (suc (suc (suc (suc c)))) h = absurd (omega arith)
 
-pub code_low : (f : Function) → code_of f ≤ last_code
-code_low Exp = omega arith
-code_low Exp2 = omega arith
-code_low Exp10 = omega arith
-code_low Expm1 = omega arith
+pub code_low : (f : Function) (c : ℕ) → code_of f ≡ c → c ≤ last_code
+code_low Exp c e = omega arith
+code_low Exp2 c e = omega arith
+code_low Exp10 c e = omega arith
+code_low Expm1 c e = omega arith
 
 -- the two tests of a finite float are one
-pub finite_is : (x : Float) → is_finite x ≡ finite x
+finite_is : (x : Float) → is_finite x ≡ finite x
 unfolding is_finite
 finite_is nan = refl
 finite_is (inf s) = refl
 finite_is (fin s m e) = refl
 
-pub holds : (b : Bool) → b ≡ true → T b
-holds b e = subst T (sym e) tt
+pub finite_tested : (x : Float) → true ≡ is_finite x → T (finite x)
+finite_tested x e = subst T (e ∙ finite_is x) tt
 
-pub fails : (b : Bool) → b ≡ false → T b → ⊥
-fails b e t = subst T e t
+pub finite_refused : (x : Float) → false ≡ is_finite x → T (finite x) → ⊥
+finite_refused x e h = subst T (sym (e ∙ finite_is x)) h
 
 pub cases_T : (b : Bool) → T b ⊎ (T b → ⊥)
 cases_T true = inl tt
 cases_T false = inr (λ t. t)
-
--- the mark of a peg that was read
-pub marked : (q r : Peg) (m : Mark) → q ≡ r → m ≡ q.mark → r.mark ≡ m
-marked q r m e h = ap (λ p. p.mark) (sym e) ∙ sym h
-
-pub marked_again : (q r : Peg) (m : Mark) → q ≡ r → m ≡ q.mark → (m ≡ Entered) ⊎ (m ≡ Worked) → r.mark ≡ Blank → ⊥
-marked_again q r m e h (inl i) b = entered_not_blank r.mark (marked q r m e h ∙ i) b
-marked_again q r m e h (inr i) b = worked_not_blank r.mark (marked q r m e h ∙ i) b

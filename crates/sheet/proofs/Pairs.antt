@@ -1,17 +1,20 @@
 -- Two sheets with equal functions, inputs and marks: the same call answers alike and leaves two such sheets. So a call has one answer.
-use Rattle.std.proofs.Common.{◌≡◌, ℕ, zero, suc, ◌<◌, ◌≤◌, [], ◌∷◌, length, get_or, take, drop, set, Ok, Err, sym, refl, ap, ◌∙◌, subst, inl, inr, ⊎_elim, arith}
+use Rattle.std.proofs.Common.{cond, ◌≡◌, ℕ, zero, suc, ◌<◌, [], ◌∷◌, length, take, drop, set, Ok, Err, sym, refl, ap, ◌∙◌, subst, inl, inr, ⊎_elim, arith}
 use lib.Ieee.{Float}
-use Rattle.std.proofs.lemmas.List.{get_or_default, get_or_past, get_or-set_same, get_or-set_other, length-set, same_lists}
-use Rattle.std.proofs.lemmas.Bool.{cases_eq, cases_lt, cases_order}
+use Rattle.std.proofs.lemmas.List.{get_or_default, get_or-set_same, get_or-set_other, length-set, same_lists}
+use Rattle.std.proofs.Math.Nat.{lt_of_not-le}
+use Rattle.std.proofs.lemmas.List.Sums.{sum_by-cons}
+use Rattle.std.proofs.lemmas.Bool.{cases_order}
 use Rattle.arithmetic.specs.Arithmetic.{Arithmetic}
 use Rattle.accuracy.specs.Figures.{Agree}
+use Rattle.accuracy.specs.Functions.{curve_of}
 use Rattle.sheet.specs.declared.peg.Peg.{Peg}
 use Rattle.sheet.specs.Faults.{number_of}
-use Rattle.sheet.specs.Functions.{curve_of}
-use Rattle.sheet.specs.Pegs.{Sheet, peg, blank, entered}
+use Rattle.sheet.specs.Pegs.{Sheet, peg, blank, entered, worked}
 use Rattle.sheet.specs.Calls.{Call, Answer, Does, Effect, Line, Refuses, Passes, Laid, Enters, Finished, entries, is_entered, laying, entering, working, reading, clearing, no_peg, too_many, beyond, no_code, not_finite, no_peg_to_enter, no_peg_to_read, no_peg_to_clear, not_blank, blank_to_read, blank_to_clear, not_worked}
 use Rattle.sheet.specs.Histories.{SameCall, SameAnswer}
-use Rattle.sheet.proofs.Names.{cases_part, fault_one, function_one}
+use Rattle.sheet.proofs.Names.{fault_one, function_one}
+use Rattle.sheet.proofs.Effects.{laid_peg, set_peg, finished_peg}
 
 pub record TwinPeg (q r : Peg) : Type 0 where
   pub functions : q.function ≡ r.function
@@ -29,9 +32,6 @@ Near s t = (k : ℕ) → Agree (curve_of (peg s k).function) (peg s k).input (pe
 twin_same : (q r : Peg) → q ≡ r → TwinPeg q r
 twin_same q r e = record { functions = ap (λ p. p.function) e; inputs = ap (λ p. p.input) e; marks = ap (λ p. p.mark) e }
 
-twin_at : {q r q' r' : Peg} → q' ≡ q → r' ≡ r → TwinPeg q r → TwinPeg q' r'
-twin_at {q} {r} {q'} {r'} e f t = subst (λ p. TwinPeg p r') (sym e) (subst (TwinPeg q) (sym f) t)
-
 twin_back : {s t : Sheet} → Twin s t → Twin t s
 twin_back w = record { size = sym w.size; pegs = λ k. record { functions = sym (w.pegs k).functions; inputs = sym (w.pegs k).inputs; marks = sym (w.pegs k).marks } }
 
@@ -45,9 +45,9 @@ twin_set s t p q hp w = record { size = length-set s p q ∙ w.size ∙ sym (len
     ht = omega (arith, w.size)
 
     each : (k : ℕ) → TwinPeg (peg (set s p q) k) (peg (set t p q) k)
-    each k =
-        ⊎_elim (λ e. twin_same _ _ (ap (λ i. get_or (set s p q) i blank) e ∙ get_or-set_same s p q blank hp ∙ sym (ap (λ i. get_or (set t p q) i blank) e ∙ get_or-set_same t p q blank ht)))
-        (λ ne. twin_at (get_or-set_other s p k q blank ne) (get_or-set_other t p k q blank ne) (w.pegs k)) (cases_eq k p)
+    each =
+        set_peg (λ k r. TwinPeg r (peg (set t p q) k)) s p q hp (subst (TwinPeg q) (sym (get_or-set_same t p q blank ht)) (twin_same q q refl))
+        (λ k ne. subst (TwinPeg (peg s k)) (sym (get_or-set_other t p k q blank ne)) (w.pegs k))
 
 same_back : (c d : Call) → SameCall c d → SameCall d c
 same_back laying d e = subst (λ x. SameCall x laying) (sym e) refl
@@ -62,9 +62,6 @@ same_refl (entering p c x) = refl
 same_refl (working f n a) = (a, refl)
 same_refl (reading p) = refl
 same_refl (clearing p) = refl
-
-pub within : (s : Sheet) (p : ℕ) → (length s ≤ p → ⊥) → p < length s
-within s p h = ⊎_elim (λ e. e) (λ g. absurd (h g)) (cases_lt p (length s))
 
 -- a line fits by the marks and the number of pegs alone
 line_twin : {s t : Sheet} {c d : Call} {n : ℕ} → Twin s t → SameCall c d → Line s c n → Line t d n
@@ -94,9 +91,10 @@ entries_twin zero (suc n) [] [] e w = refl
 entries_twin zero (suc n) [] (r ∷ t) e w = absurd (omega arith)
 entries_twin zero (suc n) (q ∷ s) [] e w = absurd (omega arith)
 entries_twin zero (suc n) (q ∷ s) (r ∷ t) e w =
-    let here : is_entered q.mark ≡ is_entered r.mark = ap is_entered (w 0).marks in
+    let entered : Peg → ℕ = λ p. cond (is_entered p.mark) 1 0 in
+    let here : entered q ≡ entered r = ap (λ m. cond (is_entered m) 1 0) (w 0).marks in
     let rest : entries (take n s) ≡ entries (take n t) = entries_twin zero n s t (omega arith) (λ k. w (suc k)) in
-    omega arith
+    omega (arith, sum_by-cons entered q (take n s), sum_by-cons entered r (take n t))
 entries_twin (suc f) n [] [] e w = refl
 entries_twin (suc f) n [] (r ∷ t) e w = absurd (omega arith)
 entries_twin (suc f) n (q ∷ s) [] e w = absurd (omega arith)
@@ -111,23 +109,16 @@ paired_at : {t u t' u' : Sheet} {c : Call} {a b : Answer} → t' ≡ t → u' �
 paired_at {t} {u} {t'} {u'} {c} {a} {b} e f p = subst (λ y. Paired y c a u' b) (sym e) (subst (λ y. Paired t c a y b) (sym f) p)
 
 pub both_blank : (s t s' t' : Sheet) (v w : ℕ) → length s ≡ length s' → Laid s v t → Laid s' w t' → Twin t t'
-both_blank s t s' t' v w e d d' = record { size = same; pegs = each }
-  where
-    same : length t ≡ length t'
-    same = d.size ∙ e ∙ sym d'.size
-
-    each : (k : ℕ) → TwinPeg (peg t k) (peg t' k)
-    each k =
-        ⊎_elim (λ h. twin_same _ _ (d.all k h ∙ sym (d'.all k (omega arith)))) (λ h. twin_same _ _ (get_or_past t k blank h ∙ sym (get_or_past t' k blank (omega arith)))) (cases_lt k (length t))
+both_blank s t s' t' v w e d d' = record { size = d.size ∙ e ∙ sym d'.size; pegs = λ k. twin_same _ _ (laid_peg d k ∙ sym (laid_peg d' k)) }
 
 both_worked : (s t s' t' : Sheet) (f n v w : ℕ) (a b : Arithmetic) → Twin s s' → Finished s f n a v t → Finished s' f n b w t' → Twin t t'
 both_worked s t s' t' f n v w a b z d d' = record { size = d.size ∙ z.size ∙ sym d'.size; pegs = each }
   where
     each : (k : ℕ) → TwinPeg (peg t k) (peg t' k)
     each k =
-        ⊎_elim
-        (λ i. twin_at (d.inside k i.0 i.1) (d'.inside k i.0 (sym (z.pegs k).marks ∙ i.1)) (record { functions = (z.pegs k).functions; inputs = (z.pegs k).inputs; marks = refl }))
-        (λ o. twin_at (d.others k o) (d'.others k (λ p e. o p ((z.pegs k).marks ∙ e))) (z.pegs k)) (cases_part f n k (peg s k).mark)
+        finished_peg (λ r. TwinPeg r (peg t' k)) d k
+        (λ i e. subst (TwinPeg (worked a (peg s k))) (sym (d'.inside k i (sym (z.pegs k).marks ∙ e))) (record { functions = (z.pegs k).functions; inputs = (z.pegs k).inputs; marks = refl }))
+        (λ o. subst (TwinPeg (peg s k)) (sym (d'.others k (λ p e. o p ((z.pegs k).marks ∙ e)))) (z.pegs k))
 
 both_entered : (s t s' t' : Sheet) (p c v w : ℕ) (x : Float) → p < length s → Twin s s' → Enters s p c x v t → Enters s' p c x w t' → Paired t (entering p c x) (Ok v) t' (Ok w)
 both_entered s t s' t' p c v w x hp z d d' =
@@ -140,7 +131,7 @@ effects_twin s t s' t' laying d v w z near e pass x y =
     record { sheets = both_blank s t s' t' v w z.size x y'; answers = inl (ap Ok (x.number ∙ z.size ∙ sym y'.number)) }
 effects_twin s t s' t' (entering p c i) d v w z near e pass x y =
     let y' : Enters s' p c i w t' = subst (λ q. Effect s' q w t') e y in
-    both_entered s t s' t' p c v w i (within s p (λ h. pass 8 (no_peg_to_enter h))) z x y'
+    both_entered s t s' t' p c v w i (lt_of_not-le (λ h. pass 8 (no_peg_to_enter h))) z x y'
 effects_twin s t s' t' (working f n a) d v w z near e pass x y =
     let y' : Finished s' f n e.0 w t' = subst (λ q. Effect s' q w t') e.1 y in
     record { sheets = both_worked s t s' t' f n v w a e.0 z x y'; answers = inl (ap Ok (x.number ∙ entries_twin f n s s' z.size z.pegs ∙ sym y'.number)) }
@@ -149,7 +140,7 @@ effects_twin s t s' t' (reading p) d v w z near e pass x y =
     paired_at x.0 y'.0 (record { sheets = z; answers = inr (record { number = p; call = refl; function = (peg s p).function; input = (peg s p).input; one = (peg s p).figure; other = (peg s' p).figure; agree = near p; one_answer = ap Ok x.1; other_answer = ap Ok y'.1 }) })
 effects_twin s t s' t' (clearing p) d v w z near e pass x y =
     let y' : Effect s' (clearing p) w t' = subst (λ q. Effect s' q w t') e y in
-    paired_at x.0 y'.0 (record { sheets = twin_set s s' p blank (within s p (λ h. pass 8 (no_peg_to_clear h))) z; answers = inl (ap Ok (x.1 ∙ sym y'.1)) })
+    paired_at x.0 y'.0 (record { sheets = twin_set s s' p blank (lt_of_not-le (λ h. pass 8 (no_peg_to_clear h))) z; answers = inl (ap Ok (x.1 ∙ sym y'.1)) })
 
 pub does_twin : (s t s' t' : Sheet) (c d : Call) (a b : Answer) → Twin s s' → Near s s' → SameCall c d → Does s c a t → Does s' d b t' → Paired t c a t' b
 does_twin s t s' t' c d (Ok v) (Ok w) z near e x y = effects_twin s t s' t' c d v w z near e x.0 x.1 y.1
@@ -172,19 +163,10 @@ same_pegs : (t u : Sheet) → length t ≡ length u → ((k : ℕ) → peg t k �
 same_pegs t u e h = same_lists t u e (λ k d l. get_or_default t k d blank l ∙ h k ∙ get_or_default u k blank d (omega arith))
 
 laid_once : (s t u : Sheet) (v w : ℕ) → Laid s v t → Laid s w u → t ≡ u
-laid_once s t u v w d d' = same_pegs t u same each
-  where
-    same : length t ≡ length u
-    same = d.size ∙ sym d'.size
-
-    each : (k : ℕ) → peg t k ≡ peg u k
-    each k = ⊎_elim (λ h. d.all k h ∙ sym (d'.all k (omega arith))) (λ h. get_or_past t k blank h ∙ sym (get_or_past u k blank (omega arith))) (cases_lt k (length t))
+laid_once s t u v w d d' = same_pegs t u (d.size ∙ sym d'.size) (λ k. laid_peg d k ∙ sym (laid_peg d' k))
 
 finished_once : (s t u : Sheet) (f n v w : ℕ) (a : Arithmetic) → Finished s f n a v t → Finished s f n a w u → t ≡ u
-finished_once s t u f n v w a d d' = same_pegs t u (d.size ∙ sym d'.size) each
-  where
-    each : (k : ℕ) → peg t k ≡ peg u k
-    each k = ⊎_elim (λ i. d.inside k i.0 i.1 ∙ sym (d'.inside k i.0 i.1)) (λ o. d.others k o ∙ sym (d'.others k o)) (cases_part f n k (peg s k).mark)
+finished_once s t u f n v w a d d' = same_pegs t u (d.size ∙ sym d'.size) (λ k. finished_peg (λ r. r ≡ peg u k) d k (λ i e. sym (d'.inside k i e)) (λ o. sym (d'.others k o)))
 
 entered_once : (s t u : Sheet) (p c v w : ℕ) (x : Float) → Enters s p c x v t → Enters s p c x w u → t ≡ u
 entered_once s t u p c v w x d d' = d.sheet ∙ ap (λ f. set s p (entered f x)) (function_one d.function d'.function (d.code ∙ sym d'.code)) ∙ sym d'.sheet

@@ -1,5 +1,7 @@
 -- The promise, from the theorems of the four curves: the one place that names them.
-use Rattle.std.proofs.Common.{◌≡◌, length, Err, sym, refl, subst}
+use Rattle.std.proofs.Common.{◌≡◌, length, Err, sym, refl, ap, ◌∙◌, subst}
+use Rattle.std.specs.Result.{IsErrAnd}
+use Rattle.std.proofs.lemmas.Result.{err_from_is_err_and}
 use Rattle.accuracy.proofs.Proved.{proved}
 use Rattle.sheet.specs.declared.fault.Fault.{Fault}
 use Rattle.sheet.specs.Faults.{number_of}
@@ -21,12 +23,16 @@ same = runs.same proved
 pub both : (s : Sheet) (c : Call) (r : Answer) (t : Sheet) → Given c → Does s c r t → record { does : Does s c r t; kept : Kept s c r t }
 both = runs.both proved
 
-pub refused : (s : Sheet) (c : Call) (r : Answer) (e : Fault) → r ≡ Err e → Given c → Refuses s c (number_of e) → record { does : Does s c r s; kept : Kept s c r s }
-refused s c r e is g f = both s c r s g (subst (λ a. Does s c a s) (sym is) (f, refl))
+-- what the exit of a `?` answers, with the error e
+refusal : (s : Sheet) (c : Call) (r : Answer) (e d : Fault) → IsErrAnd r (λ y. y ≡ d) → d ≡ e → Refuses s c (number_of e) → Does s c r s
+refusal s c r e d x i f = let y = err_from_is_err_and r x in subst (λ a. Does s c a s) (sym (y.1 ∙ ap Err (y.2 ∙ i))) (f, refl)
+
+pub refused : (s : Sheet) (c : Call) (r : Answer) (e d : Fault) → IsErrAnd r (λ y. y ≡ d) → d ≡ e → Given c → Refuses s c (number_of e) → record { does : Does s c r s; kept : Kept s c r s }
+refused s c r e d x i g f = both s c r s g (refusal s c r e d x i f)
 
 -- those of lay
 pub all_three : (s : Sheet) (r : Answer) (t : Sheet) → Does s laying r t → record { does : Does s laying r t; kept : Kept s laying r t; starts : Starts r t }
 all_three = runs.all_three proved
 
-pub lay_refused : (s : Sheet) (r : Answer) (e : Fault) → r ≡ Err e → Refuses s laying (number_of e) → record { does : Does s laying r s; kept : Kept s laying r s; starts : Starts r s }
-lay_refused s r e is f = all_three s r s (subst (λ a. Does s laying a s) (sym is) (f, refl))
+pub lay_refused : (s : Sheet) (r : Answer) (d : Fault) → IsErrAnd r (λ y. y ≡ d) → Refuses s laying (number_of d) → record { does : Does s laying r s; kept : Kept s laying r s; starts : Starts r s }
+lay_refused s r d x f = all_three s r s (refusal s laying r d d x refl f)

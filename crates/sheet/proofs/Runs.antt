@@ -1,24 +1,25 @@
 -- Every history keeps the promise, once the four curves are proved.
-use Rattle.std.proofs.Common.{◌≡◌, ℕ, ◌<◌, ◌≤◌, T, ◌⊎◌, ◌∷◌, length, get_or, set, Ok, Err, sym, refl, ap, ◌∙◌, subst, inl, inr, ⊎_elim, arith}
+use Rattle.std.proofs.Common.{◌≡◌, ℕ, ◌<◌, ◌≤◌, T, ◌⊎◌, ◌∷◌, length, set, Ok, Err, sym, refl, ap, ◌∙◌, subst, inl, inr, ⊎_elim, arith}
 use lib.Ieee.{Float, binary32, fits, of_bits, of_fields, odd}
 use lib.Ieee.Scale.{finite}
-use Rattle.std.proofs.lemmas.List.{get_or_past, get_or-set_same, get_or-set_other}
+use Rattle.std.proofs.Math.Nat.{lt_of_not-le}
 use Rattle.std.proofs.lemmas.Bool.{cases_eq, cases_lt}
 use Rattle.exact.specs.Exact.{Function as Curve}
 use Rattle.arithmetic.specs.Arithmetic.{Arithmetic, Lawful}
-use Rattle.accuracy.specs.Figures.{Right, Exactly, Agree, equal}
+use Rattle.accuracy.specs.Figures.{figure, Right, Exactly, Agree, equal}
 use Rattle.accuracy.specs.Theorems.{Proved}
-use Rattle.sheet.specs.declared.function.Function.{Function}
+use Rattle.accuracy.specs.declared.function.Function.{Function}
+use Rattle.accuracy.specs.Functions.{curve_of}
 use Rattle.sheet.specs.declared.peg.Mark.{Mark}
 use Rattle.sheet.specs.declared.peg.Mark.TheVariants.{Blank, Entered, Worked}
 use Rattle.sheet.specs.declared.peg.Peg.{Peg}
-use Rattle.sheet.specs.Functions.{curve_of, figure_of}
 use Rattle.sheet.specs.Pegs.{Sheet, Sound, peg, nought, blank, entered, worked}
 use Rattle.sheet.specs.Calls.{Call, Answer, Does, Finished, Laid, largest, laying, entering, working, reading, clearing, no_peg, too_many, not_finite, no_peg_to_enter, no_peg_to_clear}
 use Rattle.sheet.specs.Histories.{Given, History, Reached, laid, after, Starts, Stands, SameCalls, SameAnswers, Same, Promise, Kept}
-use Rattle.sheet.proofs.Names.{cases_part, cases_T}
+use Rattle.sheet.proofs.Names.{cases_T}
+use Rattle.sheet.proofs.Effects.{laid_peg, set_peg, finished_peg}
 use Rattle.sheet.proofs.Total.{some}
-use Rattle.sheet.proofs.Pairs.{TwinPeg, Twin, Near, within, both_blank, does_twin, does_size, does_once}
+use Rattle.sheet.proofs.Pairs.{TwinPeg, Twin, Near, both_blank, does_twin, does_size, does_once}
 use Rattle.sheet.proofs.Stories.{reached_told, tells_one}
 
 -- ---- what holds of each peg of a sheet that is reached
@@ -30,7 +31,7 @@ record Ready (q : Peg) : Type 0 where
 FineAt : Mark → Peg → Type 0
 FineAt Blank q = q ≡ blank
 FineAt Entered q = Ready q × (q.figure ≡ nought)
-FineAt Worked q = (a : Arithmetic) × Lawful a × Ready q × (q.figure ≡ figure_of q.function a q.input)
+FineAt Worked q = (a : Arithmetic) × Lawful a × Ready q × (q.figure ≡ figure (curve_of q.function) a q.input)
 
 Fine : Peg → Type 0
 Fine q = FineAt q.mark q
@@ -52,19 +53,15 @@ All s = (k : ℕ) → Fine (peg s k)
 
 all_set : (s : Sheet) (p : ℕ) (q : Peg) → p < length s → Fine q → All s → All (set s p q)
 unfolding All
-all_set s p q hp fq f k =
-    ⊎_elim (λ e. subst Fine (sym (ap (λ i. get_or (set s p q) i blank) e ∙ get_or-set_same s p q blank hp)) fq)
-    (λ ne. subst Fine (sym (get_or-set_other s p k q blank ne)) (f k)) (cases_eq k p)
+all_set s p q hp fq f = set_peg (λ _. Fine) s p q hp fq (λ k _. f k)
 
 all_worked : (s t : Sheet) (f n v : ℕ) (a : Arithmetic) → Lawful a → Finished s f n a v t → All s → All t
 unfolding All
-all_worked s t f n v a l d g k =
-    ⊎_elim (λ i. subst Fine (sym (d.inside k i.0 i.1)) (fine_worked a l (peg s k) i.1 (g k)))
-    (λ o. subst Fine (sym (d.others k o)) (g k)) (cases_part f n k (peg s k).mark)
+all_worked s t f n v a l d g k = finished_peg Fine d k (λ _ e. fine_worked a l (peg s k) e (g k)) (λ _. g k)
 
 all_blank : (s t : Sheet) (v : ℕ) → Laid s v t → All t
 unfolding All
-all_blank s t v d k = ⊎_elim (λ h. subst Fine (sym (d.all k h)) fine_blank) (λ h. subst Fine (sym (get_or_past t k blank h)) fine_blank) (cases_lt k (length t))
+all_blank s t v d k = subst Fine (sym (laid_peg d k)) fine_blank
 
 holds_of : (x : Float) → ((T (finite x) → ⊥) → ⊥) → T (finite x)
 holds_of x h = ⊎_elim (λ t. t) (λ n. absurd (h n)) (cases_T (finite x))
@@ -74,10 +71,10 @@ all_kept s t c (Err e) g d f = subst All (sym d.1) f
 all_kept s t laying (Ok v) g d f = all_blank s t v d.1
 all_kept s t (entering p c x) (Ok v) g d f =
     subst All (sym d.1.sheet)
-    (all_set s p (entered d.1.function x) (within s p (λ h. d.0 8 (no_peg_to_enter h))) (fine_entered d.1.function x (holds_of x (λ h. d.0 7 (not_finite h))) g) f)
+    (all_set s p (entered d.1.function x) (lt_of_not-le (λ h. d.0 8 (no_peg_to_enter h))) (fine_entered d.1.function x (holds_of x (λ h. d.0 7 (not_finite h))) g) f)
 all_kept s t (working p n a) (Ok v) g d f = all_worked s t p n v a g d.1 f
 all_kept s t (reading p) (Ok v) g d f = subst All (sym d.1.0) f
-all_kept s t (clearing p) (Ok v) g d f = subst All (sym d.1.0) (all_set s p blank (within s p (λ h. d.0 8 (no_peg_to_clear h))) fine_blank f)
+all_kept s t (clearing p) (Ok v) g d f = subst All (sym d.1.0) (all_set s p blank (lt_of_not-le (λ h. d.0 8 (no_peg_to_clear h))) fine_blank f)
 
 reached_all : {h : History} {t : Sheet} → Reached h t → All t
 reached_all (laid {s = s} {t = t} {n = n} d) = all_blank s t n d.1
@@ -114,7 +111,7 @@ fine_input q f = go q.mark f
 
 module _ (proved : (f : Curve) → Proved f) where
   sound : (q : Peg) → Fine q → Sound q
-  unfolding Fine FineAt figure_of
+  unfolding Fine FineAt
   sound q f = record { blank_rule = λ e. at Blank e; entered_rule = λ e. (at Entered e).1; input_rule = fine_input q f; right = λ e. right (at Worked e); exact = λ e. exact (at Worked e) }
     where
       at : (m : Mark) → q.mark ≡ m → FineAt m q
@@ -131,7 +128,7 @@ module _ (proved : (f : Curve) → Proved f) where
   stands {t = t} r = let z = reached_size r in record { some_peg = z.0; not_too_many = z.1; told = reached_told r; sound = λ k _. sound (peg t k) (reached_all r k) }
 
   figures : (q r : Peg) → TwinPeg q r → Fine q → Fine r → Agree (curve_of q.function) q.input q.figure r.figure
-  unfolding Fine FineAt figure_of
+  unfolding Fine FineAt
   figures q r w f g = go q.mark f (subst (λ m. FineAt m r) (sym w.marks) g)
     where
       go : (m : Mark) → FineAt m q → FineAt m r → Agree (curve_of q.function) q.input q.figure r.figure
@@ -139,9 +136,9 @@ module _ (proved : (f : Curve) → Proved f) where
       go Entered x y = equal (x.1 ∙ sym y.1)
       go Worked x y =
           let c = curve_of q.function in
-          let fy : r.figure ≡ figure_of q.function y.0 q.input = y.3 ∙ ap (λ h. figure_of h y.0 r.input) (sym w.functions) ∙ ap (figure_of q.function y.0) (sym w.inputs) in
+          let fy : r.figure ≡ figure c y.0 q.input = y.3 ∙ ap (λ h. figure (curve_of h) y.0 r.input) (sym w.functions) ∙ ap (figure c y.0) (sym w.inputs) in
           subst (Agree c q.input q.figure) (sym fy)
-          (subst (λ u. Agree c q.input u (figure_of q.function y.0 q.input)) (sym x.3) ((proved c).agrees x.0 y.0 x.1 y.1 q.input x.2.held x.2.number))
+          (subst (λ u. Agree c q.input u (figure c y.0 q.input)) (sym x.3) ((proved c).agrees x.0 y.0 x.1 y.1 q.input x.2.held x.2.number))
 
   pub twins : {g h : History} {s t : Sheet} → Reached g s → Reached h t → SameCalls g h → length s ≡ length t → Twin s t × SameAnswers g h
   unfolding All

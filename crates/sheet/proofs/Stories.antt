@@ -1,43 +1,37 @@
 -- Each peg of a sheet that is reached is as the history tells it.
-use Rattle.std.proofs.Common.{◌≡◌, ℕ, ◌<◌, ◌⊎◌, [], ◌∷◌, length, set, Ok, Err, sym, refl, ap, ◌∙◌, subst, inl, inr, ⊎_elim, arith}
-use Rattle.std.proofs.lemmas.List.{get_or-set_same, get_or-set_other, length-set}
-use Rattle.std.proofs.lemmas.Bool.{cases_eq}
-use Rattle.sheet.specs.declared.function.Function.{Function}
+use Rattle.std.proofs.Common.{◌≡◌, ℕ, ◌<◌, ◌⊎◌, [], ◌∷◌, length, set, Ok, Err, sym, refl, ap, ◌∙◌, subst, inl, inr, arith}
+use Rattle.std.proofs.lemmas.List.{length-set}
+use Rattle.std.proofs.Math.Nat.{lt_of_not-le}
+use Rattle.accuracy.specs.declared.function.Function.{Function}
+use Rattle.accuracy.specs.Functions.{code_of}
 use Rattle.sheet.specs.declared.peg.Mark.TheVariants.{Entered}
 use Rattle.sheet.specs.declared.peg.Peg.{Peg}
-use Rattle.sheet.specs.Functions.{code_of}
 use Rattle.sheet.specs.Pegs.{Sheet, peg, blank, entered, worked}
 use Rattle.sheet.specs.Calls.{Call, Answer, Does, Part, laying, entering, working, reading, clearing, no_peg_to_enter, no_peg_to_clear}
 use Rattle.sheet.specs.Histories.{History, Reached, laid, after, Tells, at_first, by_lay, by_clear, by_enter, by_work, past_refusal, past_read, past_clear, past_enter, past_work}
-use Rattle.sheet.proofs.Names.{cases_part, function_one}
-use Rattle.sheet.proofs.Pairs.{within}
+use Rattle.sheet.proofs.Names.{function_one}
+use Rattle.sheet.proofs.Effects.{set_peg, finished_peg}
 
 abbrev Told : History → Sheet → Type 0
 Told h t = (k : ℕ) → k < length t → Tells h k (peg t k)
 
 told_set : (s : Sheet) (h h' : History) (p : ℕ) (q : Peg) → p < length s → Told h s → Tells h' p q → ((k : ℕ) (r : Peg) → Tells h k r → (k ≡ p → ⊥) → Tells h' k r) → Told h' (set s p q)
 told_set s h h' p q hp w here other k hk =
-    let in-s : k < length s = omega (arith, length-set s p q) in
-    ⊎_elim (λ e. subst (λ i. Tells h' i (peg (set s p q) i)) (sym e) (subst (Tells h' p) (sym (get_or-set_same s p q blank hp)) here))
-    (λ ne. subst (Tells h' k) (sym (get_or-set_other s p k q blank ne)) (other k (peg s k) (w k in-s) ne)) (cases_eq k p)
+    set_peg (λ i r. i < length s → Tells h' i r) s p q hp (λ _. here) (λ i ne hi. other i (peg s i) (w i hi) ne) k (omega (arith, length-set s p q))
 
 told_more : (s t : Sheet) (h : History) (c : Call) (a : Answer) → Does s c a t → Told h s → Told (record { call = c; answer = a } ∷ h) t
 told_more s t h c (Err e) d w = subst (Told (record { call = c; answer = Err e } ∷ h)) (sym d.1) (λ k hk. past_refusal (w k hk))
 told_more s t h laying (Ok v) d w = λ k hk. subst (Tells _ k) (sym (d.1.all k hk)) by_lay
 told_more s t h (entering p c x) (Ok v) d w =
     subst (Told (record { call = entering p c x; answer = Ok v } ∷ h)) (sym d.1.sheet)
-    (told_set s h _ p (entered d.1.function x) (within s p (λ i. d.0 8 (no_peg_to_enter i))) w (by_enter d.1.function d.1.code) (λ k r z ne. past_enter z ne))
-told_more s t h (working f n a) (Ok v) d w = each
-  where
-    each : (k : ℕ) → k < length t → Tells (record { call = working f n a; answer = Ok v } ∷ h) k (peg t k)
-    each k hk =
-        let in-s : k < length s = omega (arith, d.1.size) in
-        ⊎_elim (λ i. subst (Tells _ k) (sym (d.1.inside k i.0 i.1)) (by_work (w k in-s) i.0 i.1))
-        (λ o. subst (Tells _ k) (sym (d.1.others k o)) (past_work (w k in-s) o)) (cases_part f n k (peg s k).mark)
+    (told_set s h _ p (entered d.1.function x) (lt_of_not-le (λ i. d.0 8 (no_peg_to_enter i))) w (by_enter d.1.function d.1.code) (λ k r z ne. past_enter z ne))
+told_more s t h (working f n a) (Ok v) d w = λ k hk.
+    let in-s : k < length s = omega (arith, d.1.size) in
+    finished_peg (Tells _ k) d.1 k (λ i e. by_work (w k in-s) i e) (λ o. past_work (w k in-s) o)
 told_more s t h (reading p) (Ok v) d w = subst (Told (record { call = reading p; answer = Ok v } ∷ h)) (sym d.1.0) (λ k hk. past_read (w k hk))
 told_more s t h (clearing p) (Ok v) d w =
     subst (Told (record { call = clearing p; answer = Ok v } ∷ h)) (sym d.1.0)
-    (told_set s h _ p blank (within s p (λ i. d.0 8 (no_peg_to_clear i))) w by_clear (λ k r z ne. past_clear z ne))
+    (told_set s h _ p blank (lt_of_not-le (λ i. d.0 8 (no_peg_to_clear i))) w by_clear (λ k r z ne. past_clear z ne))
 
 pub reached_told : {h : History} {t : Sheet} → Reached h t → (k : ℕ) → k < length t → Tells h k (peg t k)
 reached_told (laid d) k hk = subst (Tells [] k) (sym (d.1.all k hk)) at_first

@@ -1,5 +1,6 @@
 -- Carrying out a list of steps, from the contract of one call.
-use Rattle.std.proofs.Common.{◌≡◌, ℕ, zero, suc, ◌+◌, ◌<◌, ◌≤◌, List, [], ◌∷◌, ◌++◌, map, reverse, length, get_or, take, set, sym, refl, ap, ◌∙◌, subst, arith, take_all}
+use Rattle.std.proofs.Common.{◌≡◌, ℕ, ◌+◌, ◌<◌, ◌≤◌, List, [], ◌∷◌, ◌++◌, map, reverse, length, get_or, take, set, sym, refl, ap, ◌∙◌, subst, take_all}
+use Rattle.std.proofs.Math.Seq.{map-set_same}
 use Rattle.std.proofs.lemmas.List.{map-append, reverse-append, take_more_set}
 use Rattle.arithmetic.specs.Arithmetic.{Arithmetic}
 use Rattle.sheet.specs.declared.replay.Command.{Command}
@@ -11,11 +12,6 @@ use Rattle.sheet.specs.Lists.{call_of, left_event, right_event, history_of, call
 use Rattle.sheet.proofs.Promised.{stands, same}
 
 module _ {X : Type 0} (event : X → Event) where
-  calls_set : (l : List X) (i : ℕ) (v d : X) → i < length l → (event v).call ≡ (event (get_or l i d)).call → calls_of event (set l i v) ≡ calls_of event l
-  calls_set [] i v d h e = refl
-  calls_set (x ∷ l) zero v d h e = ap (λ c. c ∷ calls_of event l) e
-  calls_set (x ∷ l) (suc i) v d h e = ap (λ r. (event x).call ∷ r) (calls_set l i v d (omega arith) e)
-
   history_more : (l : List X) (i : ℕ) (v : X) → i < length l → history_of event (take (i + 1) (set l i v)) ≡ event v ∷ history_of event (take i l)
   history_more l i v h =
       ap (history_of event) (take_more_set l i v h) ∙ ap reverse (map-append event (take i l) (v ∷ [])) ∙ reverse-append (map event (take i l)) (event v ∷ [])
@@ -27,7 +23,7 @@ module _ {X : Type 0} (event : X → Event) where
 
   pub sofar_more : (list l : List X) (i : ℕ) (s t : Sheet) (v d : X) → i < length l → (event v).call ≡ (event (get_or l i d)).call → Kept s (event v).call (event v).answer t → Sofar list i l s → Sofar list (i + 1) (set l i v) t
   sofar_more list l i s t v d h e k w =
-      record { calls = calls_set l i v d h e ∙ w.calls; reached = subst (λ g. Reached g t) (sym (history_more l i v h)) (k.reached (history_of event (take i l)) w.reached) }
+      record { calls = map-set_same (λ x. (event x).call) l i v d e ∙ w.calls; reached = subst (λ g. Reached g t) (sym (history_more l i v h)) (k.reached (history_of event (take i l)) w.reached) }
 
   pub carried_out : (s : Sheet) (list : List X) (n i : ℕ) (t : Sheet) (done : List X) → n ≡ length s → length t ≡ length s → length done ≤ i → Sofar list i done t → CarriedOut event s list n t done
   carried_out s list n i t done e z h w =

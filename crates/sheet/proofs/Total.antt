@@ -1,70 +1,24 @@
 -- Every call has an answer and leaves a sheet.
-use Rattle.std.proofs.Common.{◌≡◌, ℕ, zero, suc, ◌+◌, ◌<◌, ◌≤◌, T, ◌⊎◌, [], ◌∷◌, length, take, drop, set, replicate, Ok, Err, refl, ap, inl, inr, ⊎_elim, arith}
+use Rattle.std.proofs.Common.{◌≡◌, ℕ, ◌+◌, ◌<◌, ◌≤◌, T, ◌⊎◌, map, length, take, drop, set, replicate, Ok, Err, refl, inl, inr, ⊎_elim, arith}
 use lib.Ieee.{Float, binary32, to_bits}
 use lib.Ieee.Scale.{finite}
+use borrow.Rule.Slice.PartMut.{put_mid}
 use Rattle.std.proofs.lemmas.List.{length-replicate, get_or-replicate}
 use Rattle.std.proofs.lemmas.Bool.{cases_lt, cases_eq}
 use Rattle.arithmetic.specs.Arithmetic.{Arithmetic}
+use Rattle.accuracy.specs.Functions.{last_code}
 use Rattle.sheet.specs.declared.fault.Fault.TheVariants.{SheetSize, PartRange, FunctionCode, InputNotFinite, PegNumber, PegNotBlank, PegBlank, PegNotWorked}
 use Rattle.sheet.specs.declared.peg.Mark.{Mark}
 use Rattle.sheet.specs.declared.peg.Mark.TheVariants.{Blank, Entered, Worked}
-use Rattle.sheet.specs.declared.peg.Peg.{Peg}
-use Rattle.sheet.specs.Functions.{last_code}
-use Rattle.sheet.specs.Pegs.{Sheet, peg, blank, entered, worked}
-use Rattle.sheet.specs.Calls.{Call, Answer, Does, entries, largest, laying, entering, working, reading, clearing}
-use Rattle.sheet.proofs.Names.{cases_entered, blank_not_entered, entered_not_blank, worked_not_blank, decode, cases_T}
+use Rattle.sheet.specs.Pegs.{Sheet, peg, blank, entered}
+use Rattle.sheet.specs.Calls.{Call, Answer, Does, Laid, entries, largest, laying, entering, working, reading, clearing}
+use Rattle.sheet.proofs.Names.{decode, cases_T}
+use Rattle.sheet.proofs.Turns.{turn, finished}
 use Rattle.sheet.proofs.Lines.{lay_many, lay_none, lay_passes, work_refused, work_passes, enter_code, enter_input, enter_number, enter_again, enter_passes, read_number, read_blank, read_entered, read_passes, clear_number, clear_blank, clear_passes}
 
--- a peg of the part after a work
-advanced : Arithmetic → (q : Peg) → (q.mark ≡ Entered) ⊎ (q.mark ≡ Entered → ⊥) → Peg
-advanced a q (inl e) = worked a q
-advanced a q (inr e) = q
-
--- the sheet after a work
-work_at : Arithmetic → ℕ → ℕ → Sheet → Sheet
-work_at a zero zero s = s
-work_at a zero (suc n) [] = []
-work_at a zero (suc n) (q ∷ s) = advanced a q (cases_entered q.mark) ∷ work_at a zero n s
-work_at a (suc f) n [] = []
-work_at a (suc f) n (q ∷ s) = q ∷ work_at a f n s
-
-at_size : (a : Arithmetic) (f n : ℕ) (s : Sheet) → length (work_at a f n s) ≡ length s
-unfolding work_at
-at_size a zero zero s = refl
-at_size a zero (suc n) [] = refl
-at_size a zero (suc n) (q ∷ s) = ap suc (at_size a zero n s)
-at_size a (suc f) n [] = refl
-at_size a (suc f) n (q ∷ s) = ap suc (at_size a f n s)
-
-advanced_entered : (a : Arithmetic) (q : Peg) (d : (q.mark ≡ Entered) ⊎ (q.mark ≡ Entered → ⊥)) → q.mark ≡ Entered → advanced a q d ≡ worked a q
-unfolding advanced
-advanced_entered a q (inl e) h = refl
-advanced_entered a q (inr e) h = absurd (e h)
-
-advanced_other : (a : Arithmetic) (q : Peg) (d : (q.mark ≡ Entered) ⊎ (q.mark ≡ Entered → ⊥)) → (q.mark ≡ Entered → ⊥) → advanced a q d ≡ q
-unfolding advanced
-advanced_other a q (inl e) h = absurd (h e)
-advanced_other a q (inr e) h = refl
-
-at_inside : (a : Arithmetic) (f n : ℕ) (s : Sheet) (k : ℕ) → f ≤ k → k < f + n → (peg s k).mark ≡ Entered → peg (work_at a f n s) k ≡ worked a (peg s k)
-unfolding work_at
-at_inside a zero zero s k l h e = absurd (omega arith)
-at_inside a zero (suc n) [] k l h e = absurd (blank_not_entered Blank refl e)
-at_inside a zero (suc n) (q ∷ s) zero l h e = advanced_entered a q (cases_entered q.mark) e
-at_inside a zero (suc n) (q ∷ s) (suc k) l h e = at_inside a zero n s k (omega arith) (omega arith) e
-at_inside a (suc f) n [] k l h e = absurd (blank_not_entered Blank refl e)
-at_inside a (suc f) n (q ∷ s) zero l h e = absurd (omega arith)
-at_inside a (suc f) n (q ∷ s) (suc k) l h e = at_inside a f n s k (omega arith) (omega arith) e
-
-at_others : (a : Arithmetic) (f n : ℕ) (s : Sheet) (k : ℕ) → (f ≤ k → k < f + n → (peg s k).mark ≡ Entered → ⊥) → peg (work_at a f n s) k ≡ peg s k
-unfolding work_at
-at_others a zero zero s k h = refl
-at_others a zero (suc n) [] k h = refl
-at_others a zero (suc n) (q ∷ s) zero h = advanced_other a q (cases_entered q.mark) (h (omega arith) (omega arith))
-at_others a zero (suc n) (q ∷ s) (suc k) h = at_others a zero n s k (λ l u. h (omega arith) (omega arith))
-at_others a (suc f) n [] k h = refl
-at_others a (suc f) n (q ∷ s) zero h = refl
-at_others a (suc f) n (q ∷ s) (suc k) h = at_others a f n s k (λ l u. h (omega arith) (omega arith))
+-- the sheet after a lay
+pub laid_blank : (s : Sheet) → Laid s (length s) (replicate (length s) blank)
+laid_blank s = record { size = length-replicate (length s) blank; all = λ k i. get_or-replicate (length s) k blank blank (omega (arith, length-replicate (length s) blank)); number = refl }
 
 Outcome : Sheet → Call → Type 0
 Outcome s c = (a : Answer) × (t : Sheet) × Does s c a t
@@ -75,8 +29,8 @@ enter_some s p c x = code (cases_lt last_code c)
   where
     place : c ≤ last_code → T (finite x) → p < length s → (m : Mark) → (peg s p).mark ≡ m → Outcome s (entering p c x)
     place hc hx hp Blank e = let d = decode c hc in (Ok 0, set s p (entered d.0 x), (enter_passes s p c x hc hx hp e, record { function = d.0; code = d.1; sheet = refl; number = refl }))
-    place hc hx hp Entered e = (Err PegNotBlank, s, (enter_again s p c x hc hx hp (entered_not_blank (peg s p).mark e), refl))
-    place hc hx hp Worked e = (Err PegNotBlank, s, (enter_again s p c x hc hx hp (worked_not_blank (peg s p).mark e), refl))
+    place hc hx hp Entered e = (Err PegNotBlank, s, (enter_again s p c x hc hx hp (λ b. cc), refl))
+    place hc hx hp Worked e = (Err PegNotBlank, s, (enter_again s p c x hc hx hp (λ b. cc), refl))
 
     number : c ≤ last_code → T (finite x) → (p < length s) ⊎ (length s ≤ p) → Outcome s (entering p c x)
     number hc hx (inl h) = place hc hx h (peg s p).mark refl
@@ -109,8 +63,8 @@ clear_some s p = number (cases_lt p (length s))
   where
     place : p < length s → (m : Mark) → (peg s p).mark ≡ m → Outcome s (clearing p)
     place hp Blank e = (Err PegBlank, s, (clear_blank s p hp e, refl))
-    place hp Entered e = (Ok 0, set s p blank, (clear_passes s p hp (entered_not_blank (peg s p).mark e), (refl, refl)))
-    place hp Worked e = (Ok 0, set s p blank, (clear_passes s p hp (worked_not_blank (peg s p).mark e), (refl, refl)))
+    place hp Entered e = (Ok 0, set s p blank, (clear_passes s p hp (λ b. cc), (refl, refl)))
+    place hp Worked e = (Ok 0, set s p blank, (clear_passes s p hp (λ b. cc), (refl, refl)))
 
     number : (p < length s) ⊎ (length s ≤ p) → Outcome s (clearing p)
     number (inl h) = place h (peg s p).mark refl
@@ -120,19 +74,16 @@ lay_some : (s : Sheet) → Outcome s laying
 unfolding Outcome
 lay_some s = none (cases_eq (length s) 0) (cases_lt largest (length s))
   where
-    done : 0 < length s → length s ≤ largest → Outcome s laying
-    done l h = (Ok (length s), replicate (length s) blank, (lay_passes s l h, record { size = length-replicate (length s) blank; all = λ k i. get_or-replicate (length s) k blank blank (omega (arith, length-replicate (length s) blank)); number = refl }))
-
     none : (length s ≡ 0) ⊎ (length s ≡ 0 → ⊥) → (largest < length s) ⊎ (length s ≤ largest) → Outcome s laying
     none (inl e) i = (Err SheetSize, s, (lay_none s e, refl))
     none (inr e) (inl h) = (Err SheetSize, s, (lay_many s h, refl))
-    none (inr e) (inr h) = done (omega arith) h
+    none (inr e) (inr h) = (Ok (length s), replicate (length s) blank, (lay_passes s (omega arith) h, laid_blank s))
 
 work_some : (s : Sheet) (f n : ℕ) (a : Arithmetic) → Outcome s (working f n a)
 unfolding Outcome
 work_some s f n a =
     ⊎_elim (λ h. (Err PartRange, s, (work_refused s f n a h, refl)))
-    (λ h. (Ok (entries (take n (drop f s))), work_at a f n s, (work_passes s f n a h, record { size = at_size a f n s; inside = λ k p e. at_inside a f n s k p.0 p.1 e; others = λ k z. at_others a f n s k (λ l u e. z (l, u) e); number = refl })))
+    (λ h. (Ok (entries (take n (drop f s))), put_mid f n s (map (turn a) (take n (drop f s))), (work_passes s f n a h, finished s f n a h)))
     (cases_lt (length s) (f + n))
 
 pub some : (s : Sheet) (c : Call) → (a : Answer) × (t : Sheet) × Does s c a t

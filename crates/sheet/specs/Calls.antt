@@ -1,14 +1,14 @@
 -- The calls on a sheet, the lines that refuse one, and what one does.
-use Rattle.std.specs.Prelude.{◌≡◌, ℕ, ◌+◌, ◌<◌, ◌≤◌, T, [], ◌∷◌, length, take, drop, Ok, Err, Result, ◌≢◌, slice_set, to_bits, Float}
+use Rattle.std.specs.Prelude.{◌≡◌, ℕ, ◌+◌, ◌<◌, ◌≤◌, Bool, true, false, T, length, take, drop, count_by, Ok, Err, Result, ◌≢◌, slice_set, to_bits, Float}
 use Rattle.std.specs.Float.{binary32}
 use Rattle.std.specs.Float.Ieee.Scale.{finite}
 use Rattle.arithmetic.specs.Arithmetic.{Arithmetic}
+use Rattle.accuracy.specs.declared.function.Function.{Function}
+use Rattle.accuracy.specs.Functions.{code_of, last_code}
 use Rattle.sheet.specs.declared.fault.Fault.{Fault}
-use Rattle.sheet.specs.declared.function.Function.{Function}
 use Rattle.sheet.specs.declared.peg.Mark.{Mark}
 use Rattle.sheet.specs.declared.peg.Mark.TheVariants.{Blank, Entered, Worked}
 use Rattle.sheet.specs.Faults.{number_of}
-use Rattle.sheet.specs.Functions.{code_of, last_code}
 use Rattle.sheet.specs.Pegs.{Sheet, peg, blank, entered, worked}
 
 pub data Call : Type 0 where
@@ -58,19 +58,14 @@ Sized s (Err e) = Refuses s laying (number_of e)
 abbrev pub Part : ℕ → ℕ → ℕ → Type 0
 Part f n k = (f ≤ k) × (k < f + n)
 
-abbrev pub is_entered : Mark → ℕ
-is_entered Blank = 0
-is_entered Entered = 1
-is_entered Worked = 0
+abbrev pub is_entered : Mark → Bool
+is_entered Blank = false
+is_entered Entered = true
+is_entered Worked = false
 
 -- how many pegs are entered
 abbrev pub entries : Sheet → ℕ
-entries [] = 0
-entries (q ∷ s) = is_entered q.mark + entries s
-
--- as many pegs, and each is blank
-abbrev pub AllBlank : Sheet → Sheet → Type 0
-AllBlank s t = (length t ≡ length s) × ((k : ℕ) → k < length t → peg t k ≡ blank)
+entries s = count_by (λ q. is_entered q.mark) s
 
 -- every peg is blank
 pub record Laid (s : Sheet) (v : ℕ) (t : Sheet) : Type 0 where
@@ -91,11 +86,6 @@ pub record Finished (s : Sheet) (f n : ℕ) (a : Arithmetic) (v : ℕ) (t : Shee
   pub inside : (k : ℕ) → Part f n k → (peg s k).mark ≡ Entered → peg t k ≡ worked a (peg s k)
   pub others : (k : ℕ) → (Part f n k → (peg s k).mark ≢ Entered) → peg t k ≡ peg s k
   pub number : v ≡ entries (take n (drop f s))
-
--- the same of one peg
-pub record Turned (s : Sheet) (i : ℕ) (a : Arithmetic) (v : ℕ) (t : Sheet) : Type 0 where
-  pub works : (peg s i).mark ≡ Entered → (t ≡ slice_set s i (worked a (peg s i))) × (v ≡ 1)
-  pub passes : ((peg s i).mark ≢ Entered) → (t ≡ s) × (v ≡ 0)
 
 -- what a call that is not refused answers, and the sheet after it
 abbrev pub Effect : Sheet → Call → ℕ → Sheet → Type 0

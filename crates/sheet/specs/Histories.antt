@@ -4,11 +4,11 @@ use Rattle.std.specs.Float.{binary32}
 use Rattle.std.specs.Float.Ieee.{fits}
 use Rattle.arithmetic.specs.Arithmetic.{Arithmetic, Lawful}
 use Rattle.accuracy.specs.Figures.{Agree}
+use Rattle.accuracy.specs.declared.function.Function.{Function}
+use Rattle.accuracy.specs.Functions.{code_of, curve_of}
 use Rattle.sheet.specs.declared.fault.Fault.{Fault}
-use Rattle.sheet.specs.declared.function.Function.{Function}
 use Rattle.sheet.specs.declared.peg.Mark.TheVariants.{Entered}
 use Rattle.sheet.specs.declared.peg.Peg.{Peg}
-use Rattle.sheet.specs.Functions.{code_of, curve_of}
 use Rattle.sheet.specs.Pegs.{Sheet, Sound, peg, blank, entered, worked}
 use Rattle.sheet.specs.Calls.{Call, Answer, Does, Part, largest, laying, entering, working, reading, clearing}
 

@@ -1,5 +1,4 @@
 pub mod Faults
-pub mod Functions
 pub mod Pegs
 pub mod Calls
 pub mod Histories

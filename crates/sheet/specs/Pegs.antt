@@ -1,16 +1,16 @@
 -- A sheet is a list of pegs: blank, entered or worked.
-use Rattle.std.specs.Prelude.{◌≡◌, ℕ, ◌<◌, ◌≤◌, true, false, T, List, length, Ok, Err, Result, from_bits, slice_index_or, Float}
+use Rattle.std.specs.Prelude.{◌≡◌, ℕ, ◌<◌, ◌≤◌, T, List, length, Ok, Err, Result, from_bits, slice_index_or, Float}
 use Rattle.std.specs.Float.Ieee.Scale.{finite}
-use Rattle.std.specs.Float.{float_is_finite as is_finite, binary32}
+use Rattle.std.specs.Float.{binary32}
 use Rattle.arithmetic.specs.Arithmetic.{Arithmetic}
-use Rattle.accuracy.specs.Figures.{Right, Exactly}
+use Rattle.accuracy.specs.Figures.{figure, Right, Exactly}
+use Rattle.accuracy.specs.declared.function.Function.{Function}
+use Rattle.accuracy.specs.declared.function.Function.TheVariants.{Exp}
+use Rattle.accuracy.specs.Functions.{curve_of}
 use Rattle.sheet.specs.declared.fault.Fault.{Fault}
-use Rattle.sheet.specs.declared.fault.Fault.TheVariants.{InputNotFinite, PegNumber}
-use Rattle.sheet.specs.declared.function.Function.{Function}
-use Rattle.sheet.specs.declared.function.Function.TheVariants.{Exp}
+use Rattle.sheet.specs.declared.fault.Fault.TheVariants.{PegNumber}
 use Rattle.sheet.specs.declared.peg.Mark.TheVariants.{Blank, Entered, Worked}
 use Rattle.sheet.specs.declared.peg.Peg.{Peg}
-use Rattle.sheet.specs.Functions.{curve_of, figure_of}
 
 abbrev pub Sheet : Type 0
 Sheet = List Peg
@@ -28,7 +28,7 @@ entered f x = record { function = f; input = x; figure = nought; mark = Entered 
 
 -- the same peg, worked under an arithmetic
 abbrev pub worked : Arithmetic → Peg → Peg
-worked a q = record { function = q.function; input = q.input; figure = figure_of q.function a q.input; mark = Worked }
+worked a q = record { function = q.function; input = q.input; figure = figure (curve_of q.function) a q.input; mark = Worked }
 
 -- the peg of a number
 abbrev pub peg : Sheet → ℕ → Peg
@@ -38,11 +38,6 @@ peg s k = slice_index_or s k blank
 abbrev pub Found : Sheet → ℕ → Result Peg Fault → Type 0
 Found s k (Ok q) = (k < length s) × (q ≡ peg s k)
 Found s k (Err e) = (length s ≤ k) × (e ≡ PegNumber)
-
--- an input is finite, or refused
-abbrev pub Checked : Float → Result (Unit {0}) Fault → Type 0
-Checked x (Ok u) = is_finite x ≡ true
-Checked x (Err e) = (is_finite x ≡ false) × (e ≡ InputNotFinite)
 
 -- the rules of a peg, by its mark
 pub record Sound (q : Peg) : Type 0 where

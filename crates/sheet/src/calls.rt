@@ -1,12 +1,11 @@
 // The five calls on a sheet.
-ghost use Rattle.std.specs.Prelude.{◌≡◌, ◌<◌, length};
-ghost use Rattle.sheet.specs.Pegs.{Checked, Found, peg as peg_of};
-ghost use Rattle.sheet.specs.Calls.{Does, AllBlank, Turned, Sized, laying, entering, working, reading, clearing};
+ghost use Rattle.sheet.specs.Pegs.{Found};
+ghost use Rattle.sheet.specs.Calls.{Does, Sized, laying, entering, working, reading, clearing};
 ghost use Rattle.sheet.specs.Histories.{Kept, Starts};
 
 use crate::fault::Fault;
-use crate::function::Function;
 use crate::peg::{Mark, Peg};
+use accuracy::function::Function;
 use arithmetic::ExpfBackend;
 
 const LARGEST: usize = 4096;
@@ -22,29 +21,10 @@ pub(crate) fn size(sheet: &[Peg]) -> Result<u32, Fault>
     Ok(n as u32)
 }
 
-fn row(sheet: &[Peg], at: usize) -> Peg
-    requires { at < length sheet.now }
-    ensures { result ≡ peg_of sheet.now at }
-{
-    sheet[at]
-}
-
 fn find(sheet: &[Peg], peg: u16) -> Result<Peg, Fault>
     ensures { Found sheet.now peg result }
 {
-    let at = usize::from(peg);
-    if at >= sheet.len() {
-        return Err(Fault::PegNumber);
-    }
-    Ok(row(sheet, at))
-}
-
-pub(crate) fn make_blank(sheet: &mut [Peg])
-    ensures { AllBlank sheet.old sheet.new }
-{
-    for q in sheet.iter_mut() {
-        *q = Peg::blank();
-    }
+    sheet.get(usize::from(peg)).copied().ok_or(Fault::PegNumber)
 }
 
 // Makes every peg blank.
@@ -54,18 +34,8 @@ pub fn lay(sheet: &mut [Peg]) -> Result<u32, Fault>
     ensures starts { Starts result sheet.new }
 {
     let n = size(sheet)?;
-    make_blank(sheet);
+    sheet.fill(Peg::blank());
     Ok(n)
-}
-
-fn must_be_finite(input: f32) -> Result<(), Fault>
-    ensures { Checked input result }
-{
-    if input.is_finite() {
-        Ok(())
-    } else {
-        Err(Fault::InputNotFinite)
-    }
 }
 
 // Gives a blank peg a function and an input.
@@ -73,30 +43,15 @@ pub fn enter(sheet: &mut [Peg], peg: u16, code: u8, input: f32) -> Result<u32, F
     ensures does { Does sheet.old (entering peg code input) result sheet.new }
     ensures kept { Kept sheet.old (entering peg code input) result sheet.new }
 {
-    let function = Function::of_code(code)?;
-    must_be_finite(input)?;
-    let found = find(sheet, peg)?;
-    match found.mark() {
-        Mark::Blank => {}
-        Mark::Entered | Mark::Worked => return Err(Fault::PegNotBlank),
+    let function = Function::try_from(code)?;
+    if !input.is_finite() {
+        return Err(Fault::InputNotFinite);
+    }
+    if find(sheet, peg)?.mark() != Mark::Blank {
+        return Err(Fault::PegNotBlank);
     }
     sheet[usize::from(peg)] = Peg::entered(function, input);
     Ok(0)
-}
-
-// The peg of a place, worked if it is entered: how many were.
-fn work_one<B: ExpfBackend>(sheet: &mut [Peg], at: usize, arith: &B) -> u32
-    requires { at < length sheet.old }
-    ensures { Turned sheet.old at (B.ExpfBackend.meaning arith.now) result sheet.new }
-{
-    let q = row(sheet, at);
-    match q.mark() {
-        Mark::Entered => {
-            sheet[at] = q.worked(arith);
-            1
-        }
-        Mark::Blank | Mark::Worked => 0,
-    }
 }
 
 // Works the entered pegs of a part, and returns how many there were.
@@ -115,8 +70,11 @@ pub fn work<B: ExpfBackend>(
         return Err(Fault::PartRange);
     }
     let mut done = 0u32;
-    for at in start..end {
-        done += work_one(sheet, at, arith);
+    for peg in &mut sheet[start..end] {
+        if peg.mark() == Mark::Entered {
+            *peg = peg.worked(arith);
+            done += 1;
+        }
     }
     Ok(done)
 }
@@ -139,10 +97,8 @@ pub fn clear(sheet: &mut [Peg], peg: u16) -> Result<u32, Fault>
     ensures does { Does sheet.old (clearing peg) result sheet.new }
     ensures kept { Kept sheet.old (clearing peg) result sheet.new }
 {
-    let found = find(sheet, peg)?;
-    match found.mark() {
-        Mark::Blank => return Err(Fault::PegBlank),
-        Mark::Entered | Mark::Worked => {}
+    if find(sheet, peg)?.mark() == Mark::Blank {
+        return Err(Fault::PegBlank);
     }
     sheet[usize::from(peg)] = Peg::blank();
     Ok(0)

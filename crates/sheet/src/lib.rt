@@ -4,6 +4,5 @@
 
 pub mod calls;
 pub mod fault;
-pub mod function;
 pub mod peg;
 pub mod replay;

@@ -3,18 +3,19 @@ ghost use Rattle.std.specs.Prelude.{◌≡◌, to_bits};
 ghost use Rattle.std.specs.Float.{binary32};
 ghost use Rattle.sheet.specs.Pegs.{blank, entered, worked};
 
-use crate::function::Function;
+use accuracy::function::Function;
 use arithmetic::ExpfBackend;
 use std::num::f32_to_bits_with_nan;
 
-#[derive(Clone, Copy)]
+#[derive(Clone, Copy, Debug, PartialEq, Eq)]
 pub enum Mark {
     Blank,
     Entered,
     Worked,
 }
 
-#[derive(Clone, Copy)]
+// The project's rules make a peg a plain row with a function, an input, a figure and a mark, where a blank one has code 0 and zeros.
+#[derive(Clone, Copy, Debug, PartialEq)]
 pub struct Peg {
     function: Function,
     input: f32,

@@ -3,7 +3,7 @@ ghost use Rattle.sheet.specs.Calls.{Does};
 ghost use Rattle.sheet.specs.Histories.{Kept, Promise};
 ghost use Rattle.sheet.specs.Lists.{call_of, Replayed, BothLaid, BothReplayed};
 
-use crate::calls::{clear, enter, lay, make_blank, read, size, work};
+use crate::calls::{clear, enter, lay, read, size, work};
 use crate::fault::Fault;
 use crate::peg::Peg;
 use arithmetic::ExpfBackend;
@@ -14,7 +14,7 @@ pub fn promise_holds()
 {}
 
 // A call, but for the sheet and the arithmetic that it is made with.
-#[derive(Clone, Copy)]
+#[derive(Clone, Copy, Debug, PartialEq)]
 pub enum Command {
     Lay,
     Enter { peg: u16, code: u8, input: f32 },
@@ -37,7 +37,8 @@ pub fn perform<A: ExpfBackend>(sheet: &mut [Peg], command: Command, arith: &A) -
     }
 }
 
-// A command of a list, with its arithmetic, and its answer once it was carried out.
+// A command of a list, with its arithmetic, and its answer once it was carried out. Step and TwinStep both stand: one
+// struct, generic in what goes with the command, would call the two sheets 0 and 1, and be no plainer.
 #[derive(Clone, Copy)]
 pub struct Step<A> {
     pub command: Command,
@@ -67,7 +68,7 @@ pub struct TwinStep<A, B> {
 }
 
 // Which of two sheets cannot be laid, and why.
-#[derive(Clone, Copy)]
+#[derive(Clone, Copy, Debug, PartialEq, Eq)]
 pub enum LayFault {
     Left(Fault),
     Right(Fault),
@@ -77,17 +78,13 @@ pub enum LayFault {
 fn lay_both(left: &mut [Peg], right: &mut [Peg]) -> Result<(u32, u32), LayFault>
     ensures { BothLaid left.old right.old result left.new right.new }
 {
-    let m = match size(left) {
-        Ok(m) => m,
-        Err(e) => return Err(LayFault::Left(e)),
-    };
-    let n = match size(right) {
-        Ok(n) => n,
-        Err(e) => return Err(LayFault::Right(e)),
-    };
-    make_blank(left);
-    make_blank(right);
-    Ok((m, n))
+    let sizes = (
+        size(left).map_err(LayFault::Left)?,
+        size(right).map_err(LayFault::Right)?,
+    );
+    left.fill(Peg::blank());
+    right.fill(Peg::blank());
+    Ok(sizes)
 }
 
 // Lays two sheets and carries out the commands of a list on both. Returns their numbers of pegs.

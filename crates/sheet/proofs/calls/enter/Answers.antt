@@ -1,45 +1,43 @@
-use Rattle.std.proofs.Common.{◌≤◌, T, set, Ok, Err, sym, refl, ap, ◌∙◌, subst}
-use lib.Ieee.Scale.{finite}
-use Rattle.std.proofs.lemmas.Result.{err_from_is_err_and}
-use Rattle.sheet.specs.declared.fault.Fault.TheVariants.{FunctionCode, InputNotFinite, PegNumber}
-use Rattle.sheet.specs.Functions.{last_code}
-use Rattle.sheet.specs.Calls.{entering}
-use Rattle.sheet.proofs.Names.{marked, marked_again, code_low, finite_is, holds, fails}
+use Rattle.std.proofs.Common.{◌≡◌, ◌≢◌, T, refl, rules}
+use lib.Ieee.{binary32, fits}
+use Rattle.sheet.specs.declared.fault.Fault.TheVariants.{FunctionCode, PegNumber}
+use Rattle.sheet.specs.declared.peg.Mark.TheVariants.{Blank}
+use Rattle.sheet.specs.Pegs.{peg}
+use Rattle.sheet.proofs.Names.{code_low, finite_tested, finite_refused}
 use Rattle.sheet.proofs.Lines.{enter_code, enter_input, enter_number, enter_again, enter_passes}
 use Rattle.sheet.proofs.Promised.{both, refused}
 use Rattle.sheet.proofs.calls.enter.Goals as goal
 
 pub returns-in_err-function : goal.returns-in_err-function
 returns-in_err-function c =
-    let p = err_from_is_err_and c.from_residual.result c.from_residual.ensures.1 in
-    refused _ _ _ FunctionCode (p.1 ∙ ap Err (p.2 ∙ c.in_err-function.ensures.1)) (holds _ c.well_formed.1.1.1.0.1) (enter_code _ _ _ _ c.in_err-function.ensures.0)
+    let fit : T (fits binary32 c.args.input) = search rules in
+    refused _ _ _ FunctionCode _ c.from_residual.ensures.1 refl fit (enter_code _ _ _ _ c.in_err-function.ensures)
 
-pub returns-in_err-must_be_finite : goal.returns-in_err-must_be_finite
-returns-in_err-must_be_finite c =
-    let p = err_from_is_err_and c.from_residual-in_err-must_be_finite.result c.from_residual-in_err-must_be_finite.ensures.1 in
-    let low : c.args.code ≤ last_code = subst (λ n. n ≤ last_code) c.in_ok-function.ensures (code_low c.in_ok-function.function) in
-    let not_finite = c.in_err-must_be_finite.ensures in
-    refused _ _ _ InputNotFinite (p.1 ∙ ap Err (p.2 ∙ not_finite.1)) (holds _ c.well_formed.1.1.1.0.1) (enter_input _ _ _ _ low (fails _ (sym (finite_is c.args.input) ∙ not_finite.0)))
+pub returns-then-not-is_finite : goal.returns-then-not-is_finite
+returns-then-not-is_finite c =
+    let fit : T (fits binary32 c.args.input) = search rules in
+    let low = code_low _ _ c.in_ok-function.ensures in
+    both _ _ _ _ fit (enter_input _ _ _ _ low (finite_refused _ c.if-not-is_finite.ensures.value), refl)
 
-pub returns-in_err-found : goal.returns-in_err-found
-returns-in_err-found c =
-    let p = err_from_is_err_and c.from_residual-in_err-found.result c.from_residual-in_err-found.ensures.1 in
-    let low : c.args.code ≤ last_code = subst (λ n. n ≤ last_code) c.in_ok-function.ensures (code_low c.in_ok-function.function) in
-    let number : T (finite c.args.input) = holds _ (sym (finite_is c.args.input) ∙ c.in_ok-must_be_finite.ensures) in
-    refused _ _ _ PegNumber (p.1 ∙ ap Err (p.2 ∙ c.in_err-found.ensures.1)) (holds _ c.well_formed.1.1.1.0.1) (enter_number _ _ _ _ low number c.in_err-found.ensures.0)
+pub returns-in_err-find : goal.returns-in_err-find
+returns-in_err-find c =
+    let fit : T (fits binary32 c.args.input) = search rules in
+    let low = code_low _ _ c.in_ok-function.ensures in
+    let number = finite_tested _ c.if-not-is_finite.ensures.value in
+    refused _ _ _ PegNumber _ c.from_residual-in_err-find.ensures.1 c.in_err-find.ensures.1 fit (enter_number _ _ _ _ low number c.in_err-find.ensures.0)
 
-pub returns-in-Entered : goal.returns-in-Entered
-returns-in-Entered c =
-    let found = c.in_ok-found.ensures in
-    let low : c.args.code ≤ last_code = subst (λ n. n ≤ last_code) c.in_ok-function.ensures (code_low c.in_ok-function.function) in
-    let number : T (finite c.args.input) = holds _ (sym (finite_is c.args.input) ∙ c.in_ok-must_be_finite.ensures) in
-    both _ _ _ _ (holds _ c.well_formed.1.1.1.0.1) (enter_again _ _ _ _ low number found.0 (marked_again _ _ _ found.1 c.mark.ensures c.in-Entered.is), refl)
+pub returns-then-ne : goal.returns-then-ne
+returns-then-ne c =
+    let fit : T (fits binary32 c.args.input) = search rules in
+    let not : (peg c.args.sheet.now c.args.peg).mark ≢ Blank = search rules in
+    let low = code_low _ _ c.in_ok-function.ensures in
+    let number = finite_tested _ c.if-not-is_finite.ensures.value in
+    both _ _ _ _ fit (enter_again _ _ _ _ low number c.in_ok-find.ensures.0 not, refl)
 
 pub returns : goal.returns
 returns c =
-    let found = c.in_ok-found.ensures in
-    let s = c.args.sheet.now in
-    let low : c.args.code ≤ last_code = subst (λ n. n ≤ last_code) c.in_ok-function.ensures (code_low c.in_ok-function.function) in
-    let number : T (finite c.args.input) = holds _ (sym (finite_is c.args.input) ∙ c.in_ok-must_be_finite.ensures) in
-    both s (entering c.args.peg c.args.code c.args.input) (Ok 0) (set s c.from.result c.entered.result) (holds _ c.well_formed.1.1.1.0.1)
-    (enter_passes _ _ _ _ low number found.0 (marked _ _ _ found.1 c.in-Blank.ensures), record { function = c.in_ok-function.function; code = c.in_ok-function.ensures; sheet = ap (λ i. set s i c.entered.result) c.from.ensures ∙ ap (set s c.args.peg) c.entered.ensures; number = refl })
+    let fit : T (fits binary32 c.args.input) = search rules in
+    let is : (peg c.args.sheet.now c.args.peg).mark ≡ Blank = search rules in
+    let low = code_low _ _ c.in_ok-function.ensures in
+    let number = finite_tested _ c.if-not-is_finite.ensures.value in
+    both _ _ _ _ fit (enter_passes _ _ _ _ low number c.in_ok-find.ensures.0 is, record { function = c.in_ok-function.function; code = c.in_ok-function.ensures; sheet = search rules; number = refl })

@@ -1,6 +1,5 @@
-use Rattle.std.proofs.Common.{◌-◌}
-use Rattle.sheet.specs.Calls.{Finished}
+use Rattle.sheet.proofs.Turns.{Turned}
 use Rattle.sheet.proofs.calls.work.Given as goal
 
-abbrev pub invariant-loop-at : goal.invariant-loop-at
-invariant-loop-at g l = Finished l.initial.sheet l.start (l.at - l.start) (g.B.ExpfBackend.meaning l.arith) l.done l.sheet
+abbrev pub invariant-loop-peg : goal.invariant-loop-peg
+invariant-loop-peg g l = Turned (g.B.ExpfBackend.meaning l.arith) l.initial.peg-items l.peg-index l.done l.peg-items

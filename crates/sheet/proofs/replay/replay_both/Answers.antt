@@ -1,16 +1,8 @@
-use Rattle.std.proofs.Common.{◌<◌, length, Err, sym, refl, ap, ◌∙◌, subst, arith}
-use Rattle.std.proofs.lemmas.Result.{err_from_is_err_and}
+use Rattle.std.proofs.Common.{◌<◌, length, refl, ◌∙◌, arith}
 use Rattle.sheet.specs.Histories.{laid}
-use Rattle.sheet.specs.Lists.{BothReplayed, left_event, right_event}
+use Rattle.sheet.specs.Lists.{left_event, right_event}
 use Rattle.sheet.proofs.Tapes.{sofar_more, carried_out, both_carried_out}
 use Rattle.sheet.proofs.replay.replay_both.Goals as goal
-
-pub returns-in_err-sizes : goal.returns-in_err-sizes
-returns-in_err-sizes g c =
-    let p = err_from_is_err_and c.from_residual.result c.from_residual.ensures.1 in
-    let none = c.in_err-sizes.ensures in
-    subst (λ r. BothReplayed g.A.ExpfBackend.meaning g.B.ExpfBackend.meaning c.args.left.now c.args.right.now c.args.list.now r c.lay_both.new.left c.lay_both.new.right c.args.list.now)
-    (sym (p.1 ∙ ap Err p.2)) (none.0, none.1, none.2, refl)
 
 pub loop-step-init : goal.loop-step-init
 loop-step-init g c = (record { calls = refl; reached = laid c.in_ok-sizes.ensures.0 }, record { calls = refl; reached = laid c.in_ok-sizes.ensures.1 })
