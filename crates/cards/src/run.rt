@@ -6,7 +6,6 @@ ghost use Rattle.cards.specs.Told.{counts_of, closed_of, answer_of, WorkedTold};
 
 use crate::card::Card;
 use crate::counts::{ClosedRun, OpenRun};
-use crate::reply::four_bytes;
 use arithmetic::ExpfBackend;
 use sheet::calls;
 use sheet::fault::Fault;
@@ -24,7 +23,7 @@ fn play<B: ExpfBackend>(card: &[u8], sheet: &mut [Peg], arith: &B) -> Result<Pla
     ensures plays { Plays (B.ExpfBackend.meaning arith.now) (unpacked card.now) sheet.old (answer_of result) sheet.new }
     ensures works { WorkedTold (unpacked card.now) result }
 {
-    match Card::unpack(card)? {
+    match Card::try_from(card)? {
         Card::Enter { code, peg, value } => {
             let value = calls::enter(sheet, peg, code, f32_from_bits_with_nan(value))?;
             Ok(Played { value, worked: 0 })
@@ -108,17 +107,10 @@ impl ClosedRun {
     pub fn told(self) -> [u8; 8]
         ensures { result ≡ count_bytes self.taken self.refused self.worked }
     {
-        let [a, b, c, d] = four_bytes(self.worked);
-        [
-            (self.taken / 256) as u8,
-            (self.taken % 256) as u8,
-            (self.refused / 256) as u8,
-            (self.refused % 256) as u8,
-            a,
-            b,
-            c,
-            d,
-        ]
+        let [a, b] = self.taken.to_be_bytes();
+        let [c, d] = self.refused.to_be_bytes();
+        let [e, f, g, h] = self.worked.to_be_bytes();
+        [a, b, c, d, e, f, g, h]
     }
 }
 
