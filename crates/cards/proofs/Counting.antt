@@ -5,7 +5,8 @@ use Rattle.arithmetic.specs.Arithmetic.{Arithmetic}
 use Rattle.sheet.specs.declared.fault.Fault.TheVariants.{RunFull}
 use Rattle.sheet.specs.Pegs.{Sheet}
 use Rattle.cards.specs.Format.{unpacked}
-use Rattle.cards.specs.Runs.{Counts, Turn, Ran, opened, next, Plays, Takes, RunsAddUp, refusal_in, worked_in, refusals, works, counting, counted}
+use Rattle.cards.specs.declared.counts.Counts.{Counts}
+use Rattle.cards.specs.Runs.{Turn, Ran, opened, next, Plays, Takes, RunsAddUp, refusal_in, worked_in, refusals, works, counting, counted}
 
 counting_short : (h : List Turn) → length h ≤ 65535 → counting h ≡ h
 counting_short h l = ap (λ (n : ℕ). drop n h) {x = length h - 65535} {y = 0} (omega arith)

@@ -6,7 +6,8 @@ use Rattle.arithmetic.specs.Signs.{order}
 use Rattle.sheet.specs.Pegs.{Sheet}
 use Rattle.sheet.specs.Calls.{Answer}
 use Rattle.cards.specs.Format.{reply_of}
-use Rattle.cards.specs.Runs.{Counts, Takes}
+use Rattle.cards.specs.declared.counts.Counts.{Counts}
+use Rattle.cards.specs.Runs.{Takes}
 use Rattle.cards.specs.Streams.{Streamed, ended, next, StreamsJoin}
 
 -- the card at i: six bytes, or all that are left

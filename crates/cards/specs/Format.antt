@@ -5,6 +5,7 @@ use Rattle.sheet.specs.declared.fault.Fault.TheVariants.{CardLength, UnusedField
 use Rattle.sheet.specs.Faults.{number_of}
 use Rattle.cards.specs.declared.card.Card.{Card}
 use Rattle.cards.specs.declared.card.Card.TheVariants.{Enter, Work, Read, Clear}
+use Rattle.cards.specs.declared.counts.Counts.{Counts}
 use Rattle.cards.specs.declared.fields.Fields.{Fields}
 use Rattle.cards.specs.Bits.{field_at}
 
@@ -69,5 +70,5 @@ abbrev pub RepliesTell : Type 0
 RepliesTell = (a b : Result ℕ Fault) → Short a → Short b → reply_of a ≡ reply_of b → a ≡ b
 
 -- the three counts of a closed run: cards taken (16 bits), cards refused (16), pegs worked (32)
-abbrev pub count_bytes : ℕ → ℕ → ℕ → List ℕ
-count_bytes taken refused worked = two_bytes taken (two_bytes refused (bytes_of_four worked))
+abbrev pub count_bytes : Counts → List ℕ
+count_bytes n = two_bytes n.taken (two_bytes n.refused (bytes_of_four n.worked))

@@ -1,6 +1,5 @@
 use Rattle.std.proofs.Common.{◌-◌, ◌*◌, ◌≤◌, length, take, drop, refl, subst, arith}
 use Rattle.cards.specs.Runs.{Takes}
-use Rattle.cards.specs.Told.{counts_of}
 use Rattle.cards.proofs.Streaming.{sofar_more, played}
 use Rattle.cards.proofs.counts.OpenRun.take_all.Goals as goal
 
@@ -15,12 +14,12 @@ loop-at-preserved g c =
     let at = c.loop-at.at in
     let a = g.B.ExpfBackend.meaning c.args.arith.now in
     let bytes = c.args.bytes.now in
-    let taken = subst (λ x. Takes a (take (x - at * 6) (drop (at * 6) bytes)) (counts_of c.loop-at.self) c.loop-at.sheet c.take.result c.take.new.sheet (counts_of c.take.new.self)) c.min-to.ensures c.take.ensures in
+    let taken = subst (λ x. Takes a (take (x - at * 6) (drop (at * 6) bytes)) c.loop-at.self.counts c.loop-at.sheet c.take.result c.take.new.sheet c.take.new.self.counts) c.min-to.ensures c.take.ensures in
     sofar_more a bytes _ _ _ _ at _ _ _ _ _ c.take.result _ (omega arith) (omega arith) (omega arith) c.reply.ensures taken c.loop-at.invariant
 
 pub returns : goal.returns
 returns g c =
     let bytes = c.args.bytes.now in
     let all : length bytes ≤ c.div_ceil-cards.result * 6 = omega arith in
-    let stream = played (g.B.ExpfBackend.meaning c.args.arith.now) bytes (counts_of c.args.self.now) c.args.sheet.now c.args.replies.now c.div_ceil-cards.result c.loop-at.at c.loop-at.replies c.loop-at.sheet (counts_of c.loop-at.self) (omega arith) all c.loop-at.invariant in
+    let stream = played (g.B.ExpfBackend.meaning c.args.arith.now) bytes c.args.self.now.counts c.args.sheet.now c.args.replies.now c.div_ceil-cards.result c.loop-at.at c.loop-at.replies c.loop-at.sheet c.loop-at.self.counts (omega arith) all c.loop-at.invariant in
     (omega arith, omega arith, stream, c.loop-at.invariant.others)
