@@ -1,11 +1,12 @@
 -- The counts of a run are those of its cards, up to the last that it takes.
-use Rattle.std.proofs.Common.{◌≡◌, ℕ, zero, suc, ◌+◌, ◌-◌, ◌<◌, ◌≤◌, min, Bool, true, false, eqb, List, ◌∷◌, length, drop, Err, MatchBool, sym, refl, ap, ◌∙◌, subst, arith}
+use Rattle.std.proofs.Common.{◌≡◌, ℕ, suc, ◌-◌, ◌<◌, ◌≤◌, min, Bool, true, false, eqb, List, ◌∷◌, length, drop, Err, MatchBool, sym, refl, ap, subst, arith}
 use Rattle.std.proofs.lemmas.Bool.{eqb-true, eqb-false}
 use Rattle.arithmetic.specs.Arithmetic.{Arithmetic}
 use Rattle.sheet.specs.declared.fault.Fault.TheVariants.{RunFull}
 use Rattle.sheet.specs.Pegs.{Sheet}
 use Rattle.cards.specs.Format.{unpacked}
-use Rattle.cards.specs.Runs.{Counts, Turn, Ran, opened, next, Plays, Takes, RunsAddUp, refusal_in, worked_in, refusals, works, counting, counted}
+use Rattle.cards.specs.declared.counts.Counts.{Counts}
+use Rattle.cards.specs.Runs.{Turn, Ran, opened, next, Plays, Takes, RunsAddUp, refusals, works, counting, counted}
 
 counting_short : (h : List Turn) → length h ≤ 65535 → counting h ≡ h
 counting_short h l = ap (λ (n : ℕ). drop n h) {x = length h - 65535} {y = 0} (omega arith)
@@ -20,32 +21,23 @@ Known h n = (n.taken ≡ min (length h) 65535) × (n.refused ≡ refusals (count
 same_full : (e : Turn) (h : List Turn) (n : Counts) → n.taken ≡ 65535 → Known h n → Known (e ∷ h) n
 unfolding Known
 same_full e h n q k =
-    let t = k.0 in
     let l : 65535 ≤ length h = omega arith in
     let c = counting_long e h l in
-    (omega arith, k.1 ∙ ap refusals (sym c), k.2 ∙ ap (λ (g : List Turn). min (works g) 4294967295) (sym c))
+    let refused = ap refusals c in
+    let worked = ap works c in
+    (omega arith, omega arith, omega arith)
 
 one_more : (e : Turn) (h : List Turn) (n : Counts) → (n.taken ≡ 65535 → ⊥) → Known h n → Known (e ∷ h) (counted n (unpacked e.bytes) e.answer)
 unfolding Known
 one_more e h n q k =
-    let t = k.0 in
-    let l : length h < 65535 = short (length h) n.taken t q in
+    let l : length h < 65535 = omega arith in
     let c = counting_short h (omega arith) in
-    let d = counting_short (e ∷ h) (omega arith) in (
-      omega arith,
-      ap (λ (x : ℕ). x + refusal_in e.answer) (k.1 ∙ ap refusals c) ∙ ap refusals (sym d),
-      cap n.worked (works h) (worked_in (unpacked e.bytes) e.answer) (k.2 ∙ ap (λ (g : List Turn). min (works g) 4294967295) c) ∙ ap (λ (g : List Turn). min (works g) 4294967295) (sym d),
-    )
-  where
-    short : (l t : ℕ) → t ≡ min l 65535 → (t ≡ 65535 → ⊥) → l < 65535
-    short l t e q = go (l - 65534) refl
-      where
-        go : (d : ℕ) → l - 65534 ≡ d → l < 65535
-        go zero z = omega arith
-        go (suc d) z = absurd (q (omega arith))
-
-    cap : (n w b : ℕ) → n ≡ min w 4294967295 → min (n + b) 4294967295 ≡ min (w + b) 4294967295
-    cap n w b e = omega arith
+    let d = counting_short (e ∷ h) (omega arith) in
+    let refused = ap refusals c in
+    let refused_more = ap refusals d in
+    let worked = ap works c in
+    let worked_more = ap works d in
+    (omega arith, omega arith, omega arith)
 
 one_card : (h : List Turn) (n m : Counts) (s t : Sheet) (a : Arithmetic) (e : Turn) → Known h n → Takes a e.bytes n s e.answer t m → Known (e ∷ h) m
 one_card h n m s t a e known = go (eqb n.taken 65535) refl

@@ -1,4 +1,3 @@
-pub mod Growing
 pub mod Packing
 pub mod Counting
 pub mod Streaming

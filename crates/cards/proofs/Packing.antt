@@ -1,88 +1,50 @@
--- The fields of six bytes, by whole bytes.
-use Rattle.std.proofs.Common.{◌≡◌, ℕ, zero, suc, ◌+◌, ◌*◌, ◌/◌, ◌%◌, ◌^◌, ◌<◌, List, [], ◌∷◌, sym, ap, ◌∙◌, ap₂, add-zero, add_assoc, add-suc, pow-suc, arith}
+-- Fields of bits by whole bytes.
+use Rattle.std.proofs.Common.{◌≡◌, ℕ, zero, suc, ◌+◌, ◌-◌, ◌*◌, ◌/◌, ◌%◌, ◌^◌, ◌<◌, List, slice_index, bit_or, length, refl, sym, ap, ◌∙◌, ap₂, add-zero, add_assoc, add-suc, add-one, pow-suc, arith}
+use Rattle.std.proofs.lemmas.Nat.{shr-shr, mod-pow-add, or_shifted}
+use Rattle.cards.specs.declared.fields.Fields.{Fields}
 use Rattle.cards.specs.Bits.{bit_at, field_at}
+use Rattle.cards.specs.Format.{Room, Spell}
 
 -- a field of w + v bits
 field_split : (b : List ℕ) (from w v : ℕ) → field_at b from (w + v) ≡ field_at b from w * 2 ^ v + field_at b (from + w) v
 unfolding field_at
-field_split b from w zero = ap (field_at b from) (add-zero w) ∙ tail (field_at b from w)
-  where
-    tail : (x : ℕ) → x ≡ x * 2 ^ 0 + 0
-    tail x = omega arith
+field_split b from w zero = ap (field_at b from) (add-zero w) ∙ omega arith
 field_split b from w (suc v) =
     ap (field_at b from) (add-suc w v)
     ∙ ap₂ (λ (x y : ℕ). 2 * x + y) (field_split b from w v) (ap (bit_at b) (sym (add_assoc from w v)))
     ∙ regroup (field_at b from w) (2 ^ v) (2 ^ suc v) (field_at b (from + w) v) (bit_at b (from + w + v)) (pow-suc 2 v)
   where
     regroup : (x p q y z : ℕ) → q ≡ p * 2 → 2 * (x * p + y) + z ≡ x * q + (2 * y + z)
-    regroup x p q y z e = let h : x * q ≡ x * (p * 2) = ap (λ (u : ℕ). x * u) e in omega arith
+    regroup x p q y z e = grind (arith, e)
 
--- eight bits are their byte
-bits_of : ℕ → ℕ
-bits_of b = 2 * (2 * (2 * (2 * (2 * (2 * (2 * (2 * 0 + b / 128 % 2) + b / 64 % 2) + b / 32 % 2) + b / 16 % 2) + b / 8 % 2) + b / 4 % 2) + b / 2 % 2) + b / 1 % 2
-
-byte_is : (b : ℕ) → b < 256 → bits_of b ≡ b
-unfolding bits_of
-byte_is b h = omega arith
-
-abbrev pub six : ℕ → ℕ → ℕ → ℕ → ℕ → ℕ → List ℕ
-six a b c d e f = a ∷ b ∷ c ∷ d ∷ e ∷ f ∷ []
-
-pub first_field : (a b c d e f : ℕ) → a < 256 → field_at (six a b c d e f) 0 2 ≡ a / 64
+-- a field within the byte i, which has j bits before it and m after it
+within_byte : (b : List ℕ) (i j w m : ℕ) → j + w + m ≡ 8 → field_at b (i * 8 + j) w ≡ slice_index b i / 2 ^ m % 2 ^ w
 unfolding field_at
-first_field a b c d e f h = omega arith
+within_byte b i j zero m e = omega arith
+within_byte b i j (suc w) m e =
+    let x = slice_index b i / 2 ^ m in
+    ap₂ (λ (n z : ℕ). 2 * n + z)
+    (within_byte b i j w (suc m) (omega arith) ∙ ap (λ (n : ℕ). n % 2 ^ w) (ap (λ (n : ℕ). slice_index b i / 2 ^ n) (sym (add-one m)) ∙ sym (shr-shr (slice_index b i) m 1)))
+    (ap₂ (λ (n k : ℕ). slice_index b n / 2 ^ k % 2) {x = (i * 8 + j + w) / 8} {y = i} {u = 7 - (i * 8 + j + w) % 8} {v = m} (omega arith) (omega arith))
+    ∙ omega (arith, ap (λ (n : ℕ). x % 2 ^ n) (sym (add-one w)) ∙ mod-pow-add x w 1)
 
-pub second_field : (a b c d e f : ℕ) → a < 256 → field_at (six a b c d e f) 2 2 ≡ a / 16 % 4
-unfolding field_at
-second_field a b c d e f h = omega arith
+-- four numbers, by the six bytes
+pub spelled : (b : List ℕ) (f : Fields) → length b ≡ 6 → Room f → slice_index b 0 ≡ f.operation * 64 + f.code * 16 + f.peg / 256 → slice_index b 1 ≡ f.peg % 256 → slice_index b 2 < 256 → slice_index b 3 < 256 → slice_index b 4 < 256 → slice_index b 5 < 256 → f.value ≡ ((slice_index b 2 * 256 + slice_index b 3) * 256 + slice_index b 4) * 256 + slice_index b 5 → Spell b f
+spelled b f size room first second p q r s value = (
+  room,
+  size,
+  within_byte b 0 0 2 6 refl ∙ omega arith,
+  within_byte b 0 2 2 4 refl ∙ omega arith,
+  field_split b 4 4 8 ∙ ap₂ (λ (x y : ℕ). x * 256 + y) (within_byte b 0 4 4 0 refl) (within_byte b 1 0 8 0 refl) ∙ omega arith,
+  field_split b 16 24 8
+      ∙ ap₂ (λ (x y : ℕ). x * 256 + y) (field_split b 16 16 8 ∙ ap₂ (λ (x y : ℕ). x * 256 + y) (field_split b 16 8 8 ∙ ap₂ (λ (x y : ℕ). x * 256 + y) (within_byte b 2 0 8 0 refl) (within_byte b 3 0 8 0 refl)) (within_byte b 4 0 8 0 refl)) (within_byte b 5 0 8 0 refl)
+      ∙ omega arith,
+)
 
-four_field : (a b c d e f : ℕ) → a < 256 → field_at (six a b c d e f) 4 4 ≡ a % 16
-unfolding field_at
-four_field a b c d e f h =
-    let r = a % 16 in
-    let l : r < 16 = omega arith in
-    let e8 : a / 8 % 2 ≡ r / 8 = omega arith in
-    let e4 : a / 4 % 2 ≡ r / 4 % 2 = omega arith in
-    let e2 : a / 2 % 2 ≡ r / 2 % 2 = omega arith in
-    let e1 : a / 1 % 2 ≡ r % 2 = omega arith in
-    ap₂ (λ (x y : ℕ). 2 * (2 * (2 * (2 * 0 + x) + y) + a / 2 % 2) + a / 1 % 2) e8 e4 ∙ ap₂ (λ (x y : ℕ). 2 * (2 * (2 * (2 * 0 + r / 8) + r / 4 % 2) + x) + y) e2 e1 ∙ nibble r l
-  where
-    nibble : (r : ℕ) → r < 16 → 2 * (2 * (2 * (2 * 0 + r / 8) + r / 4 % 2) + r / 2 % 2) + r % 2 ≡ r
-    nibble r h =
-        let h1 : r ≡ 2 * (r / 2) + r % 2 = omega arith in
-        let h2 : r / 2 ≡ 2 * (r / 4) + r / 2 % 2 = omega arith in
-        let h3 : r / 4 ≡ 2 * (r / 8) + r / 4 % 2 = omega arith in
-        chain r (r / 2) (r / 4) (r / 8) (r % 2) (r / 2 % 2) (r / 4 % 2) h1 h2 h3
-      where
-        chain : (r a b c x y z : ℕ) → r ≡ 2 * a + x → a ≡ 2 * b + y → b ≡ 2 * c + z → 2 * (2 * (2 * (2 * 0 + c) + z) + y) + x ≡ r
-        chain r a b c x y z p q s = omega arith
-
-at_one : (a b c d e f : ℕ) → b < 256 → field_at (six a b c d e f) 8 8 ≡ b
-unfolding field_at bits_of
-at_one a b c d e f h = byte_is b h
-
-at_two : (a b c d e f : ℕ) → c < 256 → field_at (six a b c d e f) 16 8 ≡ c
-unfolding field_at bits_of
-at_two a b c d e f h = byte_is c h
-
-at_three : (a b c d e f : ℕ) → d < 256 → field_at (six a b c d e f) 24 8 ≡ d
-unfolding field_at bits_of
-at_three a b c d e f h = byte_is d h
-
-at_four : (a b c d e f : ℕ) → e < 256 → field_at (six a b c d e f) 32 8 ≡ e
-unfolding field_at bits_of
-at_four a b c d e f h = byte_is e h
-
-at_five : (a b c d e f : ℕ) → f < 256 → field_at (six a b c d e f) 40 8 ≡ f
-unfolding field_at bits_of
-at_five a b c d e f h = byte_is f h
-
-pub third_field : (a b c d e f : ℕ) → a < 256 → b < 256 → field_at (six a b c d e f) 4 12 ≡ a % 16 * 256 + b
-third_field a b c d e f h i = field_split (six a b c d e f) 4 4 8 ∙ ap₂ (λ (x y : ℕ). x * 256 + y) (four_field a b c d e f h) (at_one a b c d e f i)
-
-pub last_field : (a b c d e f : ℕ) → c < 256 → d < 256 → e < 256 → f < 256 → field_at (six a b c d e f) 16 32 ≡ ((c * 256 + d) * 256 + e) * 256 + f
-last_field a b c d e f h i j k =
-    let l = six a b c d e f in
-    field_split l 16 24 8 ∙ ap₂ (λ (x y : ℕ). x * 256 + y)
-    (field_split l 16 16 8 ∙ ap₂ (λ (x y : ℕ). x * 256 + y) (field_split l 16 8 8 ∙ ap₂ (λ (x y : ℕ). x * 256 + y) (at_two a b c d e f h) (at_three a b c d e f i)) (at_four a b c d e f j))
-    (at_five a b c d e f k)
+-- the first byte
+pub joined : (o k h : ℕ) → o < 4 → k < 4 → h < 16 → bit_or (bit_or (o * 64 % 256) (k * 16 % 256)) h ≡ o * 64 + k * 16 + h
+joined o k h p q r =
+    ap (λ (x : ℕ). bit_or x h) (ap₂ bit_or {x = o * 64 % 256} {y = o * 2 ^ 6} {u = k * 16 % 256} {v = k * 16} (omega arith) (omega arith) ∙ or_shifted o 6 (k * 16) (omega arith))
+    ∙ ap (λ (x : ℕ). bit_or x h) {x = o * 2 ^ 6 + k * 16} {y = (o * 4 + k) * 2 ^ 4} (omega arith)
+    ∙ or_shifted (o * 4 + k) 4 h r
+    ∙ omega arith

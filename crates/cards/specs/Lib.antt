@@ -2,4 +2,3 @@ pub mod Bits
 pub mod Format
 pub mod Runs
 pub mod Streams
-pub mod Told

@@ -9,6 +9,7 @@ use Rattle.sheet.specs.Calls.{Call, Answer, Does, entering, working, reading, cl
 use Rattle.sheet.specs.Histories.{Kept}
 use Rattle.cards.specs.declared.card.Card.{Card}
 use Rattle.cards.specs.declared.card.Card.TheVariants.{Enter, Work, Read, Clear}
+use Rattle.cards.specs.declared.counts.Counts.{Counts}
 use Rattle.cards.specs.Format.{unpacked}
 
 -- the call that a card names, under an arithmetic
@@ -23,12 +24,7 @@ abbrev pub Plays : Arithmetic → Result Card Fault → Sheet → Answer → She
 Plays a (Err e) s r t = (r ≡ Err e) × (t ≡ s)
 Plays a (Ok card) s r t = Does s (call_of a card) r t × Kept s (call_of a card) r t
 
--- the counts of a run: cards taken, cards refused, pegs worked
-pub record Counts : Type 0 where
-  pub taken : ℕ
-  pub refused : ℕ
-  pub worked : ℕ
-
+-- the counts of a run that has just opened
 abbrev pub none : Counts
 none = record { taken = 0; refused = 0; worked = 0 }
 

@@ -4,7 +4,8 @@ use Rattle.arithmetic.specs.Arithmetic.{Arithmetic}
 use Rattle.sheet.specs.Pegs.{Sheet}
 use Rattle.sheet.specs.Calls.{Answer}
 use Rattle.cards.specs.Format.{reply_of}
-use Rattle.cards.specs.Runs.{Counts, Takes}
+use Rattle.cards.specs.declared.counts.Counts.{Counts}
+use Rattle.cards.specs.Runs.{Takes}
 
 -- the bytes of a card
 abbrev pub card_size : ℕ

@@ -1,10 +1,11 @@
 // A card: what it says, from six bytes and back.
-ghost use Rattle.std.specs.Prelude.{◌≡◌, ◌<◌, length, Ok, MatchOption};
-ghost use Rattle.cards.specs.Bits.{field_at};
-ghost use Rattle.cards.specs.Format.{unpacked, Packable};
+ghost use Rattle.std.specs.Prelude.{◌≡◌, Some, Ok, MatchResult};
+ghost use Rattle.cards.specs.Format.{unpacked, fields_of, Packable, no_room_words};
 
-use crate::bits::field;
+use crate::fields::Fields;
 use sheet::fault::Fault;
+use std::error::Error;
+use std::fmt;
 
 #[derive(Clone, Copy, Debug, PartialEq, Eq)]
 pub enum Card {
@@ -14,68 +15,88 @@ pub enum Card {
     Clear { peg: u16 },
 }
 
-impl Card {
-    // What the bytes say.
-    pub fn unpack(bytes: &[u8]) -> Result<Card, Fault>
-        ensures { result ≡ unpacked bytes.now }
-    {
-        if bytes.len() != 6 {
-            return Err(Fault::CardLength);
-        }
-        let operation = field(bytes, 0, 2);
-        let code = field(bytes, 2, 2);
-        let peg = field(bytes, 4, 12) as u16;
-        let value = field(bytes, 16, 32);
-        match operation {
-            0 => Ok(Card::Enter {
-                code: code as u8,
-                peg,
-                value,
-            }),
-            1 if code == 0 => Ok(Card::Work {
+// A card that says a number for which its field has no room.
+#[derive(Clone, Copy, Debug, PartialEq, Eq)]
+pub struct NoRoom;
+
+impl fmt::Display for NoRoom {
+    ghost output = { λ _. Some no_room_words };
+
+    fn fmt<W: fmt::Write>(&self, f: &mut fmt::Formatter<W>) -> fmt::Result {
+        f.write_str("a card has 2 bits for a code and 12 for a peg")
+    }
+}
+
+impl Error for NoRoom {}
+
+// What the bytes say. A field that the operation does not use has to be 0.
+impl TryFrom<&[u8]> for Card {
+    type Error = Fault;
+
+    ghost try_from_gives = { λ bytes r. r ≡ unpacked bytes.now };
+
+    fn try_from(bytes: &[u8]) -> Result<Card, Fault> {
+        let bytes = <[u8; 6]>::try_from(bytes).map_err(|_| Fault::CardLength)?;
+        let Fields {
+            operation,
+            code,
+            peg,
+            value,
+        } = Fields::from(bytes);
+        match (operation, code, value) {
+            (0, _, _) => Ok(Card::Enter { code, peg, value }),
+            (1, 0, _) => Ok(Card::Work {
                 first: peg,
                 count: value,
             }),
-            2 if code == 0 && value == 0 => Ok(Card::Read { peg }),
-            3 if code == 0 && value == 0 => Ok(Card::Clear { peg }),
+            (2, 0, 0) => Ok(Card::Read { peg }),
+            (3, 0, 0) => Ok(Card::Clear { peg }),
             _ => Err(Fault::UnusedField),
         }
     }
 }
 
-// The bytes of four fields.
-fn joined(operation: u8, code: u8, peg: u16, value: u32) -> [u8; 6]
-    requires { (operation < 4) × (code < 4) × (peg < 4096) }
-    ensures size { length result ≡ 6 }
-    ensures first { field_at result 0 2 ≡ operation }
-    ensures second { field_at result 2 2 ≡ code }
-    ensures third { field_at result 4 12 ≡ peg }
-    ensures last { field_at result 16 32 ≡ value }
-{
-    [
-        operation * 64 + code * 16 + (peg / 256) as u8,
-        (peg % 256) as u8,
-        (value / 0x100_0000) as u8,
-        (value / 0x1_0000 % 256) as u8,
-        (value / 256 % 256) as u8,
-        (value % 256) as u8,
-    ]
+// The numbers of a card: operation 0 enters, 1 works, 2 reads and 3 clears.
+impl From<Card> for Fields {
+    ghost from_gives = { λ card fields. fields ≡ fields_of card };
+
+    fn from(card: Card) -> Fields {
+        match card {
+            Card::Enter { code, peg, value } => Fields {
+                operation: 0,
+                code,
+                peg,
+                value,
+            },
+            Card::Work { first, count } => Fields {
+                operation: 1,
+                code: 0,
+                peg: first,
+                value: count,
+            },
+            Card::Read { peg } => Fields {
+                operation: 2,
+                code: 0,
+                peg,
+                value: 0,
+            },
+            Card::Clear { peg } => Fields {
+                operation: 3,
+                code: 0,
+                peg,
+                value: 0,
+            },
+        }
+    }
 }
 
-impl Card {
-    // The bytes of a card, and none where a field has no room for what it says.
-    pub fn pack(self) -> Option<[u8; 6]>
-        ensures { MatchOption result (Packable self → ⊥) (λ bytes. Packable self × (unpacked bytes ≡ Ok self)) }
-    {
-        let (operation, code, peg, value) = match self {
-            Card::Enter { code, peg, value } => (0, code, peg, value),
-            Card::Work { first, count } => (1, 0, first, count),
-            Card::Read { peg } => (2, 0, peg, 0),
-            Card::Clear { peg } => (3, 0, peg, 0),
-        };
-        if code > 3 || peg > 4095 {
-            return None;
-        }
-        Some(joined(operation, code, peg, value))
+// The bytes of a card.
+impl TryFrom<Card> for [u8; 6] {
+    type Error = NoRoom;
+
+    ghost try_from_gives = { λ card r. MatchResult r (λ bytes. Packable card × (unpacked bytes ≡ Ok card)) (λ _. Packable card → ⊥) };
+
+    fn try_from(card: Card) -> Result<[u8; 6], NoRoom> {
+        <[u8; 6]>::try_from(Fields::from(card))
     }
 }

@@ -2,9 +2,9 @@
 
 #![tactic(auto)]
 
-mod bits;
 pub mod card;
 pub mod counts;
+mod fields;
 pub mod reply;
 pub mod run;
 pub mod stream;

@@ -1,20 +1,8 @@
 // A reply as bytes: the number of the refusal or 0, and the result or 0.
 ghost use Rattle.std.specs.Prelude.{◌≡◌};
-ghost use Rattle.cards.specs.Format.{bytes_of_four, reply_of, RepliesTell};
+ghost use Rattle.cards.specs.Format.{reply_of, RepliesTell};
 
 use sheet::fault::Fault;
-
-// The bytes of a number, the most significant first.
-pub(crate) fn four_bytes(n: u32) -> [u8; 4]
-    ensures { result ≡ bytes_of_four n }
-{
-    [
-        (n / 0x100_0000) as u8,
-        (n / 0x1_0000 % 256) as u8,
-        (n / 256 % 256) as u8,
-        (n % 256) as u8,
-    ]
-}
 
 pub fn reply(answer: Result<u32, Fault>) -> [u8; 5]
     ensures { result ≡ reply_of answer }
@@ -23,7 +11,7 @@ pub fn reply(answer: Result<u32, Fault>) -> [u8; 5]
         Ok(v) => (0, v),
         Err(e) => (e.number(), 0),
     };
-    let [a, b, c, d] = four_bytes(value);
+    let [a, b, c, d] = value.to_be_bytes();
     [refusal, a, b, c, d]
 }
 

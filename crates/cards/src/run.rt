@@ -1,48 +1,47 @@
 // An open run takes cards with a sheet and an arithmetic, and counts them.
-ghost use Rattle.std.specs.Prelude.{◌≡◌};
+ghost use Rattle.std.specs.Prelude.{◌≡◌, ◌<◌, Ok};
 ghost use Rattle.cards.specs.Format.{unpacked, count_bytes};
-ghost use Rattle.cards.specs.Runs.{Plays, Takes, RunsAddUp, none, worked_in};
-ghost use Rattle.cards.specs.Told.{counts_of, closed_of, answer_of, WorkedTold};
+ghost use Rattle.cards.specs.Runs.{Plays, Takes, RunsAddUp, none, counted, most_cards};
 
 use crate::card::Card;
-use crate::counts::{ClosedRun, OpenRun};
-use crate::reply::four_bytes;
+use crate::counts::{ClosedRun, Counts, OpenRun};
 use arithmetic::ExpfBackend;
 use sheet::calls;
 use sheet::fault::Fault;
 use sheet::peg::Peg;
 use std::num::f32_from_bits_with_nan;
 
-// What a card answers, and how many pegs it worked.
-#[derive(Clone, Copy)]
-pub struct Played {
-    pub(crate) value: u32,
-    pub(crate) worked: u32,
+impl Card {
+    // Makes the call that the card names.
+    fn play<B: ExpfBackend>(self, sheet: &mut [Peg], arith: &B) -> Result<u32, Fault>
+        ensures { Plays (B.ExpfBackend.meaning arith.now) (Ok self) sheet.old result sheet.new }
+    {
+        match self {
+            Card::Enter { code, peg, value } => {
+                calls::enter(sheet, peg, code, f32_from_bits_with_nan(value))
+            }
+            Card::Work { first, count } => calls::work(sheet, first, count, arith),
+            Card::Read { peg } => calls::read(sheet, peg),
+            Card::Clear { peg } => calls::clear(sheet, peg),
+        }
+    }
 }
 
-fn play<B: ExpfBackend>(card: &[u8], sheet: &mut [Peg], arith: &B) -> Result<Played, Fault>
-    ensures plays { Plays (B.ExpfBackend.meaning arith.now) (unpacked card.now) sheet.old (answer_of result) sheet.new }
-    ensures works { WorkedTold (unpacked card.now) result }
-{
-    match Card::unpack(card)? {
-        Card::Enter { code, peg, value } => {
-            let value = calls::enter(sheet, peg, code, f32_from_bits_with_nan(value))?;
-            Ok(Played { value, worked: 0 })
-        }
-        Card::Work { first, count } => {
-            let value = calls::work(sheet, first, count, arith)?;
-            Ok(Played {
-                value,
-                worked: value,
-            })
-        }
-        Card::Read { peg } => {
-            let value = calls::read(sheet, peg)?;
-            Ok(Played { value, worked: 0 })
-        }
-        Card::Clear { peg } => {
-            let value = calls::clear(sheet, peg)?;
-            Ok(Played { value, worked: 0 })
+impl Counts {
+    // The counts after one more card: what it said, and its answer.
+    fn counted(self, card: Result<Card, Fault>, answer: Result<u32, Fault>) -> Counts
+        requires taken { self.taken < most_cards }
+        requires refused { self.refused < most_cards }
+        ensures { result ≡ counted self card answer }
+    {
+        let worked = match (card, answer) {
+            (Ok(Card::Work { .. }), Ok(pegs)) => pegs,
+            _ => 0,
+        };
+        Counts {
+            taken: self.taken + 1,
+            refused: self.refused + u16::from(answer.is_err()),
+            worked: self.worked.saturating_add(worked),
         }
     }
 }
@@ -51,12 +50,10 @@ impl OpenRun {
     pub const MOST_CARDS: u16 = 65535;
 
     pub fn open() -> OpenRun
-        ensures { counts_of result ≡ none }
+        ensures { result.counts ≡ none }
     {
         OpenRun {
-            taken: 0,
-            refused: 0,
-            worked: 0,
+            counts: Counts::default(),
         }
     }
 
@@ -67,58 +64,39 @@ impl OpenRun {
         sheet: &mut [Peg],
         arith: &B,
     ) -> Result<u32, Fault>
-        ensures { Takes (B.ExpfBackend.meaning arith.now) card.now (counts_of self.old) sheet.old result sheet.new (counts_of self.new) }
+        ensures { Takes (B.ExpfBackend.meaning arith.now) card.now self.old.counts sheet.old result sheet.new self.new.counts }
     {
-        if self.taken == OpenRun::MOST_CARDS {
+        if self.counts.taken == OpenRun::MOST_CARDS {
             return Err(Fault::RunFull);
         }
-        match play(card, sheet, arith) {
-            Ok(y) => {
-                self.taken += 1;
-                self.worked = self.worked.saturating_add(y.worked);
-                Ok(y.value)
-            }
-            Err(e) => {
-                self.taken += 1;
-                self.refused += 1;
-                Err(e)
-            }
-        }
+        let card = Card::try_from(card);
+        // A match: of what the closure of an `and_then` does to the sheet nothing is known after it.
+        let answer = match card {
+            Ok(card) => card.play(sheet, arith),
+            Err(fault) => Err(fault),
+        };
+        self.counts = self.counts.counted(card, answer);
+        answer
     }
 
     // Ends the run.
     pub fn close(self) -> ClosedRun
-        ensures { closed_of result ≡ counts_of self }
+        ensures { result.counts ≡ self.counts }
     {
-        let OpenRun {
-            taken,
-            refused,
-            worked,
-        } = self;
-        ClosedRun {
-            taken,
-            refused,
-            worked,
-        }
+        let OpenRun { counts } = self;
+        ClosedRun { counts }
     }
 }
 
 impl ClosedRun {
     // Cards taken, cards refused and pegs worked, the most significant byte first.
     pub fn told(self) -> [u8; 8]
-        ensures { result ≡ count_bytes self.taken self.refused self.worked }
+        ensures { result ≡ count_bytes self.counts }
     {
-        let [a, b, c, d] = four_bytes(self.worked);
-        [
-            (self.taken / 256) as u8,
-            (self.taken % 256) as u8,
-            (self.refused / 256) as u8,
-            (self.refused % 256) as u8,
-            a,
-            b,
-            c,
-            d,
-        ]
+        let [a, b] = self.counts.taken.to_be_bytes();
+        let [c, d] = self.counts.refused.to_be_bytes();
+        let [e, f, g, h] = self.counts.worked.to_be_bytes();
+        [a, b, c, d, e, f, g, h]
     }
 }
 

@@ -1,6 +1,5 @@
 // A stream of bytes as cards: each six are one, and bytes left over at the end are one too.
 ghost use Rattle.cards.specs.Streams.{TakesAll, StreamsJoin};
-ghost use Rattle.cards.specs.Told.{counts_of};
 
 use crate::counts::OpenRun;
 use crate::reply::reply;
@@ -19,18 +18,18 @@ impl OpenRun {
         arith: &B,
         replies: &mut [[u8; 5]],
     ) -> Option<usize>
-        ensures { TakesAll (B.ExpfBackend.meaning arith.now) bytes.now (counts_of self.old) sheet.old replies.old result sheet.new (counts_of self.new) replies.new }
+        ensures { TakesAll (B.ExpfBackend.meaning arith.now) bytes.now self.old.counts sheet.old replies.old result sheet.new self.new.counts replies.new }
     {
-        let cards = bytes.len().div_ceil(CARD_SIZE);
-        if cards > replies.len() {
+        let cards = bytes.chunks(CARD_SIZE);
+        let count = cards.len();
+        if count > replies.len() {
             return None;
         }
-        for at in 0..cards {
-            let from = at * CARD_SIZE;
-            let to = bytes.len().min(from + CARD_SIZE);
-            replies[at] = reply(self.take(&bytes[from..to], sheet, arith));
+        // By index: of what an `iter_mut` in a `zip` lends out nothing is known after the loop.
+        for (at, card) in cards.enumerate() {
+            replies[at] = reply(self.take(card, sheet, arith));
         }
-        Some(cards)
+        Some(count)
     }
 }
 

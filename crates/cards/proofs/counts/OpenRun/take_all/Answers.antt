@@ -1,26 +1,20 @@
-use Rattle.std.proofs.Common.{◌-◌, ◌*◌, ◌≤◌, length, take, drop, refl, subst, arith}
-use Rattle.cards.specs.Runs.{Takes}
-use Rattle.cards.specs.Told.{counts_of}
+use Rattle.std.proofs.Common.{◌≡◌, length, min, ◌∙◌, arith}
 use Rattle.cards.proofs.Streaming.{sofar_more, played}
 use Rattle.cards.proofs.counts.OpenRun.take_all.Goals as goal
 
-pub loop-at-init : goal.loop-at-init
-loop-at-init g c = record { on = λ rest u k q. q; others = refl }
-
-pub bounds-replies-at : goal.bounds-replies-at
-bounds-replies-at g c = omega arith
-
 pub loop-at-preserved : goal.loop-at-preserved
 loop-at-preserved g c =
-    let at = c.loop-at.at in
-    let a = g.B.ExpfBackend.meaning c.args.arith.now in
-    let bytes = c.args.bytes.now in
-    let taken = subst (λ x. Takes a (take (x - at * 6) (drop (at * 6) bytes)) (counts_of c.loop-at.self) c.loop-at.sheet c.take.result c.take.new.sheet (counts_of c.take.new.self)) c.min-to.ensures c.take.ensures in
-    sofar_more a bytes _ _ _ _ at _ _ _ _ _ c.take.result _ (omega arith) (omega arith) (omega arith) c.reply.ensures taken c.loop-at.invariant
+    let steps = c.in-Some.ensures.steps in
+    let chunk = steps.0.1 in
+    let w = c.loop-at.invariant in
+    let still = w.1.still in
+    let size : length c.in-Some.card.now ≡ min 6 (length c.loop-at.at-iterator.iter.rest.now) = omega arith in (
+      steps.0.0 ∙ w.0,
+      rw (steps.1, steps.2) (sofar_more _ _ _ _ _ _ _ _ _ _ _ _ _ _ _ c.take.result _ chunk.0 size chunk.2 (omega arith) c.reply.ensures c.take.ensures w.1),
+    )
 
 pub returns : goal.returns
 returns g c =
-    let bytes = c.args.bytes.now in
-    let all : length bytes ≤ c.div_ceil-cards.result * 6 = omega arith in
-    let stream = played (g.B.ExpfBackend.meaning c.args.arith.now) bytes (counts_of c.args.self.now) c.args.sheet.now c.args.replies.now c.div_ceil-cards.result c.loop-at.at c.loop-at.replies c.loop-at.sheet (counts_of c.loop-at.self) (omega arith) all c.loop-at.invariant in
-    (omega arith, omega arith, stream, c.loop-at.invariant.others)
+    let steps = c.in-None.ensures.steps in
+    let w = c.loop-at.invariant.1 in
+    (omega arith, omega arith, played _ _ _ _ _ _ _ _ _ _ _ steps.0.1.0 w, w.others)
