@@ -9,7 +9,7 @@ pub fn reply(answer: Result<u32, Fault>) -> [u8; 5]
 {
     let (refusal, value) = match answer {
         Ok(v) => (0, v),
-        Err(e) => (e.number(), 0),
+        Err(e) => (u8::from(e), 0),
     };
     let [a, b, c, d] = value.to_be_bytes();
     [refusal, a, b, c, d]
