@@ -1,5 +1,6 @@
 // What the words of the command line ask for.
-ghost use Rattle.std.specs.Prelude.{◌≤◌};
+ghost use Rattle.std.specs.Prelude.{◌≡◌, ◌≤◌};
+ghost use Rattle.digest.specs.Mistake.{mistake_of};
 
 use crate::fold::{BLOCKS, Every};
 use query::{Pair, UnknownName};
@@ -54,6 +55,8 @@ impl fmt::Display for Mistake {
 }
 
 impl From<UnknownName<'_>> for Mistake {
+    ghost from_gives = { λ name m. m ≡ mistake_of name };
+
     fn from(name: UnknownName<'_>) -> Mistake {
         match name {
             UnknownName::Curve(_) => Mistake::UnknownCurve,
@@ -67,7 +70,9 @@ fn read_blocks(first: &str, count: &str) -> Result<Blocks, Mistake> {
         return Err(Mistake::Blocks);
     };
     match first.checked_add(count) {
-        Some(end) if end <= BLOCKS => Ok(Blocks { numbers: first..end }),
+        Some(end) if end <= BLOCKS => Ok(Blocks {
+            numbers: first..end,
+        }),
         _ => Err(Mistake::Blocks),
     }
 }
