@@ -28,6 +28,11 @@ within_byte b i j (suc w) m e =
     (ap₂ (λ (n k : ℕ). slice_index b n / 2 ^ k % 2) {x = (i * 8 + j + w) / 8} {y = i} {u = 7 - (i * 8 + j + w) % 8} {v = m} (omega arith) (omega arith))
     ∙ omega (arith, ap (λ (n : ℕ). x % 2 ^ n) (sym (add-one w)) ∙ mod-pow-add x w 1)
 
+-- a field with one more byte, the byte i
+one_byte_more : (b : List ℕ) (from w i x : ℕ) → from + w ≡ i * 8 → field_at b from w ≡ x → field_at b from (w + 8) ≡ x * 256 + slice_index b i % 256
+one_byte_more b from w i x e f =
+    field_split b from w 8 ∙ ap₂ (λ (y z : ℕ). y * 256 + z) f (ap (λ (n : ℕ). field_at b n 8) (e ∙ sym (add-zero (i * 8))) ∙ within_byte b i 0 8 0 refl ∙ omega arith)
+
 -- four numbers, by the six bytes
 pub spelled : (b : List ℕ) (f : Fields) → length b ≡ 6 → Room f → slice_index b 0 ≡ f.operation * 64 + f.code * 16 + f.peg / 256 → slice_index b 1 ≡ f.peg % 256 → slice_index b 2 < 256 → slice_index b 3 < 256 → slice_index b 4 < 256 → slice_index b 5 < 256 → f.value ≡ ((slice_index b 2 * 256 + slice_index b 3) * 256 + slice_index b 4) * 256 + slice_index b 5 → Spell b f
 spelled b f size room first second p q r s value = (
@@ -35,10 +40,8 @@ spelled b f size room first second p q r s value = (
   size,
   within_byte b 0 0 2 6 refl ∙ omega arith,
   within_byte b 0 2 2 4 refl ∙ omega arith,
-  field_split b 4 4 8 ∙ ap₂ (λ (x y : ℕ). x * 256 + y) (within_byte b 0 4 4 0 refl) (within_byte b 1 0 8 0 refl) ∙ omega arith,
-  field_split b 16 24 8
-      ∙ ap₂ (λ (x y : ℕ). x * 256 + y) (field_split b 16 16 8 ∙ ap₂ (λ (x y : ℕ). x * 256 + y) (field_split b 16 8 8 ∙ ap₂ (λ (x y : ℕ). x * 256 + y) (within_byte b 2 0 8 0 refl) (within_byte b 3 0 8 0 refl)) (within_byte b 4 0 8 0 refl)) (within_byte b 5 0 8 0 refl)
-      ∙ omega arith,
+  one_byte_more b 4 4 1 _ refl (within_byte b 0 4 4 0 refl) ∙ omega arith,
+  one_byte_more b 16 24 5 _ refl (one_byte_more b 16 16 4 _ refl (one_byte_more b 16 8 3 _ refl (within_byte b 2 0 8 0 refl))) ∙ omega arith,
 )
 
 -- the first byte

@@ -13,6 +13,7 @@ pub(crate) struct Fields {
     pub(crate) value: u32,
 }
 
+// The numbers that six bytes spell.
 impl From<[u8; 6]> for Fields {
     ghost from_gives = { Spell };
 
@@ -27,7 +28,7 @@ impl From<[u8; 6]> for Fields {
     }
 }
 
-// A number above its bits has no room.
+// The bytes that spell the numbers, where each fits its bits.
 impl TryFrom<Fields> for [u8; 6] {
     type Error = NoRoom;
 

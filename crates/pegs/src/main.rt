@@ -2,9 +2,13 @@
 
 #![tactic(auto)]
 
+ghost use Rattle.std.specs.Prelude.{◌<◌, length, IfOk};
+ghost use Rattle.std.specs.Io.KnownBytes.{Consumes, IsAtEnd};
+
 use arithmetic::GenericExpfBackend;
 use cards::counts::OpenRun;
 use cards::reply::reply;
+use cards::stream::CARD_SIZE;
 use sheet::calls::lay;
 use sheet::peg::Peg;
 use std::io;
@@ -12,17 +16,20 @@ use std::io::{BufReader, BufWriter, Read, Write};
 
 const PEGS: usize = 128;
 
-// Reads up to six bytes: how many there were. Fewer than six are the last ones.
-fn next_card(input: &mut impl Read, card: &mut [u8; 6]) -> io::Result<usize> {
-    let mut have = 0usize;
-    for at in 0..6 {
-        let n = input.read(&mut card[at..at + 1])?;
+// The next card, in the buffer: six bytes, or fewer at the end of the input.
+fn next_card<'a, R: Read>(input: &mut R, buffer: &'a mut [u8; CARD_SIZE]) -> io::Result<&'a [u8]>
+    ensures bytes { IfOk result (λ card. Consumes (R.remaining input.old) (R.remaining input.new) card.now) }
+    ensures short { IfOk result (λ card. length card.now < 6 → IsAtEnd (R.remaining input.new)) }
+{
+    let mut filled = 0;
+    while filled < CARD_SIZE {
+        let n = input.read(&mut buffer[filled..])?;
         if n == 0 {
             break;
         }
-        have = at + 1;
+        filled += n;
     }
-    Ok(have)
+    Ok(&buffer[..filled])
 }
 
 // Plays every card and writes its reply.
@@ -33,18 +40,16 @@ fn play_all(
     sheet: &mut [Peg],
 ) -> io::Result<()> {
     let arith = GenericExpfBackend {};
-    let mut card = [0u8; 6];
+    let mut buffer = [0u8; CARD_SIZE];
     for _ in 0..u64::MAX {
-        let n = next_card(input, &mut card)?;
-        if n == 0 {
+        let card = next_card(input, &mut buffer)?;
+        if !card.is_empty() {
+            out.write_all(&reply(run.take(card, sheet, &arith)))?;
+        }
+        // a short card is the last, and an empty one is none
+        if card.len() < CARD_SIZE {
             break;
         }
-        if n < card.len() {
-            // too short, and the last
-            out.write_all(&reply(run.take(&card[0..n], sheet, &arith)))?;
-            break;
-        }
-        out.write_all(&reply(run.take(&card, sheet, &arith)))?;
     }
     Ok(())
 }
