@@ -49,6 +49,7 @@ fn answer_all(rt: &HostRuntime) -> io::Result<u64> {
     Ok(wrong)
 }
 
+// In `replay` too: query, which both stand on, reads no command line.
 fn wants_help(rt: &HostRuntime) -> io::Result<bool> {
     Ok(
         env::args(rt)?

@@ -20,7 +20,8 @@ pub fn fill(pair: Pair, patterns: &mut [u32])
     }
 }
 
-// A curve and an arithmetic by number, which is how C names them: curves 0 exp, 1 exp2, 2 exp10, 3 expm1; arithmetics 0 two-step, 1 fused.
+// A curve and an arithmetic by number, as the C interface has them: curves 0 exp, 1 exp2, 2 exp10, 3 expm1;
+// arithmetics 0 two-step, 1 fused.
 #[derive(Clone, Copy, Debug, PartialEq, Eq)]
 pub struct Numbers {
     pub curve: u32,

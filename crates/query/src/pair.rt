@@ -46,7 +46,8 @@ impl Pair {
         }
     }
 
-    // The pattern of the value at the pattern `bits`.
+    // The pattern of the value at the pattern `bits`. Inlined: a call for each pattern of a fill takes a twentieth more time.
+    #[inline(always)]
     pub fn answer_at(self, bits: u32) -> u32
         ensures { result ≡ answer (value_of self) bits }
     {

@@ -26,13 +26,18 @@ the f32 nearest to 10^x. The program ends with status 1 where any other line dif
 const NEAR_ONE: &str =
     "Near one, from 0xb25e5bbb to 0xb25e5bd9, exp10 differs on purpose: ours is the f32 nearest to 10^x.";
 
-fn write_difference(
+// Writes a line for answers that differ.
+fn write_verdict(
     out: &mut impl Write,
     number: u64,
     line: Recorded,
-    ours: u32,
-    note: &str,
+    verdict: Verdict,
 ) -> io::Result<()> {
+    let (ours, note) = match verdict {
+        Verdict::Equal => return Ok(()),
+        Verdict::Known(ours) => (ours, ", as expected near one"),
+        Verdict::Different(ours) => (ours, ""),
+    };
     let Recorded {
         pair,
         pattern,
@@ -42,19 +47,6 @@ fn write_difference(
         out,
         "line {number}: {pair} at {pattern:#010x}: ours {ours:#010x}, the crate's {theirs:#010x}{note}"
     )
-}
-
-fn write_verdict(
-    out: &mut impl Write,
-    number: u64,
-    line: Recorded,
-    verdict: Verdict,
-) -> io::Result<()> {
-    match verdict {
-        Verdict::Equal => Ok(()),
-        Verdict::Known(ours) => write_difference(out, number, line, ours, ", as expected near one"),
-        Verdict::Different(ours) => write_difference(out, number, line, ours, ""),
-    }
 }
 
 // Judges every line and writes the summary; how many lines differ as they should not or cannot be read.
@@ -85,6 +77,7 @@ fn replay_all(rt: &HostRuntime) -> io::Result<u64> {
     Ok(wrong)
 }
 
+// In `curve` too: query, which both stand on, reads no command line.
 fn wants_help(rt: &HostRuntime) -> io::Result<bool> {
     Ok(
         env::args(rt)?
