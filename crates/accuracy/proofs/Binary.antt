@@ -1,12 +1,14 @@
 -- exp2 whole: every figure is right, exact at whole numbers, in agreement with any other lawful one, and as IEEE 754-2019 has it at the special values.
 use Rattle.std.proofs.Common.{◌≡◌, ℕ, ◌+◌, ◌*◌, ◌/◌, ◌%◌, ◌<◌, ◌≤◌, min, Bool, true, false, cond, not, ◌&&◌, T, ltb, leb, ◌⊎◌, ℤ, pos, negsuc, ◌+ℤ◌, ◌*ℤ◌, neg_ℤ, nat_abs, ◌≤ℤ◌, sym, refl, ap, ◌∙◌, subst, inl, inr, zero-lt-suc, mul-one, arith, lit≤, eqb→eq}
-use native.Mathlib.Nat.{div-add-mod, mul-mod_left}
-use lib.Signed.{le_z, le_z_yes}
-use lib.Ieee.{Float, nan, inf, fin, binary32, up, down, fits, is_nan, to_signed, of_bits, to_bits}
-use lib.Ieee.Bits.{is_true, is_false, of_bits-fits}
-use lib.Ieee.Fits.{down_pos, and_l, and_r, and_i, eq→eqb}
-use lib.Ieee.Scale.{finite}
-use borrow.Author.Differences.{ints, le_in}
+use Rattle.std.specs.Int.Signed.{le_z, le_z_yes}
+use Rattle.std.specs.Float.{Float, nan, inf, fin, binary32}
+use Rattle.std.specs.Float.Ieee.{up, down, fits, is_nan, to_signed, of_bits, to_bits}
+use Rattle.std.specs.Float.Ieee.Bits.{is_true, is_false, of_bits-fits}
+use Rattle.std.specs.Float.Ieee.Fits.{down_pos, and_l, and_r, and_i, eq→eqb}
+use Rattle.std.specs.Float.Ieee.Scale.{finite}
+use Rattle.std.proofs.Math.Nat.{div-add-mod, mul-mod_left}
+use Rattle.std.proofs.lemmas.Int.{ints}
+use borrow.Author.Differences.{le_in}
 use std.Quotient.{cls}
 use Rattle.exact.specs.Fraction.{Same, integer}
 use Rattle.exact.specs.Logarithm.{binary}

@@ -1,7 +1,8 @@
 -- exp2 near zero: 1 + x p(x), p of six terms in pairs, is within 2 ^ -47 of 2 ^ x, relative to it, before the narrowing.
 use Rattle.std.proofs.Common.{◌≡◌, ℕ, ◌^◌, ◌≤◌, T, [], ◌∷◌, pos, sym, refl, subst, inr, le_trans, lit≤}
-use lib.Ieee.{Float, binary32, binary64, mul, of_bits, fits}
-use lib.Ieee.Scale.{finite}
+use Rattle.std.specs.Float.{Float, binary32, binary64}
+use Rattle.std.specs.Float.Ieee.{mul, of_bits, fits}
+use Rattle.std.specs.Float.Ieee.Scale.{finite}
 use Rattle.exact.specs.Logarithm.{binary}
 use Rattle.exact.specs.Exact.{exp2}
 use Rattle.exact.proofs.Ring.{con, ◌⊕◌, ◌⊖◌, ◌⊗◌, ⊝, norm}

@@ -1,8 +1,9 @@
 -- exp10 whole: every figure is right, exact at whole numbers from 0 to 10, in agreement with any other lawful one, and as IEEE 754-2019 has it at the special values.
 use Rattle.std.proofs.Common.{◌≡◌, ℕ, zero, suc, ◌+◌, ◌*◌, ◌^◌, ◌<◌, ◌≤◌, Bool, true, false, cond, not, ◌&&◌, T, ltb, leb, ◌⊎◌, [], ◌∷◌, ℤ, pos, sym, refl, ap, ◌∙◌, subst, inl, inr, le_trans, zero-lt-suc, arith, lit≤, eqb→eq, pow_pos, pow_mono}
-use lib.Ieee.{Float, nan, inf, fin, binary32, up, down, fits, is_nan, of_bits, to_bits, size}
-use lib.Ieee.Bits.{is_false}
-use lib.Ieee.Scale.{finite}
+use Rattle.std.specs.Float.{Float, nan, inf, fin, binary32}
+use Rattle.std.specs.Float.Ieee.{up, down, fits, is_nan, of_bits, to_bits, size}
+use Rattle.std.specs.Float.Ieee.Bits.{is_false}
+use Rattle.std.specs.Float.Ieee.Scale.{finite}
 use Rattle.exact.specs.Fraction.{Same, whole}
 use Rattle.exact.specs.Logarithm.{decimal}
 use Rattle.exact.specs.Exact.{exp10}

@@ -1,7 +1,8 @@
 -- exp10 near zero: 1 + x p(x), p of seven terms by Horner's scheme, is within 2 ^ -43 of 10 ^ x, relative to it, before the narrowing.
 use Rattle.std.proofs.Common.{◌≡◌, ℕ, ◌≤◌, T, [], ◌∷◌, pos, sym, refl, subst, inr, le_trans, lit≤}
-use lib.Ieee.{Float, binary32, binary64, of_bits, fits}
-use lib.Ieee.Scale.{finite}
+use Rattle.std.specs.Float.{Float, binary32, binary64}
+use Rattle.std.specs.Float.Ieee.{of_bits, fits}
+use Rattle.std.specs.Float.Ieee.Scale.{finite}
 use Rattle.exact.specs.Logarithm.{decimal}
 use Rattle.exact.specs.Exact.{exp10}
 use Rattle.exact.proofs.Ring.{con, ◌⊕◌, ◌⊖◌, ◌⊗◌, ⊝, norm}

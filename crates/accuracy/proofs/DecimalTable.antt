@@ -1,9 +1,10 @@
 -- exp10 by its table: the f64 before the narrowing is within 2 ^ -43 of 10 ^ x, relative to it, under every lawful arithmetic.
 use Rattle.std.proofs.Common.{◌≡◌, ℕ, ◌^◌, ◌≤◌, T, [], ◌∷◌, ℤ, pos, negsuc, ◌+ℤ◌, ◌*ℤ◌, neg_ℤ, nat_abs, ◌≤ℤ◌, refl, ap, ◌∙◌, subst, inr, zero-lt-suc, arith, lit≤}
-use lib.Signed.{shr_z}
-use lib.Ieee.{Float, binary32, binary64, mul, of_bits, fits}
-use lib.Ieee.Scale.{finite}
-use borrow.Author.Differences.{ints}
+use Rattle.std.specs.Int.Signed.{shr_z}
+use Rattle.std.specs.Float.{Float, binary32, binary64}
+use Rattle.std.specs.Float.Ieee.{mul, of_bits, fits}
+use Rattle.std.specs.Float.Ieee.Scale.{finite}
+use Rattle.std.proofs.lemmas.Int.{ints}
 use std.Quotient.{cls}
 use Rattle.exact.specs.Logarithm.{binary, decimal}
 use Rattle.exact.specs.Exact.{exp10}

@@ -1,7 +1,8 @@
 -- The polynomial of exp and expm1 beside their table rows, for |t| at most 1/256: five coefficients, near the series.
 use Rattle.std.proofs.Common.{◌≡◌, ℕ, ◌^◌, ◌≤◌, T, [], ◌∷◌, pos, sym, refl, subst, inr, lit≤}
-use lib.Ieee.{Float, binary32, binary64, fits, of_bits}
-use lib.Ieee.Scale.{finite}
+use Rattle.std.specs.Float.{Float, binary32, binary64}
+use Rattle.std.specs.Float.Ieee.{fits, of_bits}
+use Rattle.std.specs.Float.Ieee.Scale.{finite}
 use Rattle.exact.proofs.Ring.{con, ◌⊕◌, ◌⊖◌, ◌⊗◌, ⊝, norm}
 use Rattle.exact.proofs.Integer.{x₀, x₁, x₂, x₃, x₄}
 use Rattle.exact.proofs.Rational.{ℚ, ◌+q◌, ◌*q◌, -q◌, ◌-q◌, ofℤ, qring}

@@ -1,9 +1,10 @@
 -- The split of exp and expm1 in rationals: x is the sum of the two rows' arguments and lo, and every argument of the split and of the polynomial lies in the law's ranges.
 use Rattle.std.proofs.Common.{◌≡◌, ℕ, ◌+◌, ◌*◌, ◌/◌, ◌%◌, ◌^◌, ◌<◌, ◌≤◌, true, false, T, [], ◌∷◌, ℤ, pos, ◌+ℤ◌, ◌-ℤ◌, ◌*ℤ◌, sym, refl, ap, ◌∙◌, subst, ap₂, inl, inr, ⊎_elim, le_of_lt, arith, lit≤, pow_pos}
-use lib.Ieee.{Float, nan, inf, fin, binary32, binary64, mul, neg, fits, is_nan, of_bits, to_bits}
-use lib.Ieee.Fits.{mul-fits}
-use lib.Ieee.Scale.{finite}
-use borrow.Author.Differences.{ints}
+use Rattle.std.specs.Float.{Float, nan, inf, fin, binary32, binary64}
+use Rattle.std.specs.Float.Ieee.{mul, neg, fits, is_nan, of_bits, to_bits}
+use Rattle.std.specs.Float.Ieee.Fits.{mul-fits}
+use Rattle.std.specs.Float.Ieee.Scale.{finite}
+use Rattle.std.proofs.lemmas.Int.{ints}
 use std.Quotient.{cls}
 use Rattle.exact.specs.Fraction.{dyadic}
 use Rattle.exact.proofs.Ring.{con, ◌⊕◌, ◌⊖◌, ◌⊗◌, ⊝, norm}

@@ -1,7 +1,8 @@
 -- exp by its tables: the f64 before the narrowing is within 2 ^ -45 of the exact value, relative to itself.
 use Rattle.std.proofs.Common.{ℕ, ◌≤◌, T, pos, sym, subst, lit≤}
-use lib.Ieee.{Float, binary32, binary64, mul, fits}
-use lib.Ieee.Scale.{finite}
+use Rattle.std.specs.Float.{Float, binary32, binary64}
+use Rattle.std.specs.Float.Ieee.{mul, fits}
+use Rattle.std.specs.Float.Ieee.Scale.{finite}
 use Rattle.exact.specs.Exact.{exp}
 use Rattle.exact.proofs.Rational.{ℚ, ◌+q◌, ◌*q◌, -q◌, ◌-q◌, ofℤ}
 use Rattle.exact.proofs.Order.{nn, ◌≤q◌, q_trans, q_mul}

@@ -1,9 +1,10 @@
 -- expm1 whole: its bands in order, each with what is promised of its figure.
 use Rattle.std.proofs.Common.{◌≡◌, ℕ, ◌<◌, ◌≤◌, Bool, true, false, cond, not, ◌&&◌, T, ltb, leb, [], ◌∷◌, ℤ, sym, refl, ap, ◌∙◌, subst, ap₂, inl, inr, lt_of_lt_of_le, le_of_lt, arith, lit≤, eqb→eq, ltb→lt, leb→le, nltb→le}
-use lib.Dec.{nleb→lt}
-use lib.Ieee.{Float, nan, inf, fin, binary32, fits, is_nan, of_bits, to_bits}
-use lib.Ieee.Bits.{is_false}
-use lib.Ieee.Scale.{finite}
+use Rattle.std.specs.Float.{Float, nan, inf, fin, binary32}
+use Rattle.std.specs.Float.Ieee.{fits, is_nan, of_bits, to_bits}
+use Rattle.std.specs.Float.Ieee.Bits.{is_false}
+use Rattle.std.specs.Float.Ieee.Scale.{finite}
+use Rattle.std.proofs.Math.Dec.{nleb→lt}
 use Rattle.exact.specs.Exact.{expm1}
 use Rattle.exact.proofs.Ring.{⊝, norm}
 use Rattle.exact.proofs.Integer.{x₀}

@@ -1,8 +1,9 @@
 -- expm1 near zero, for 2 ^ -25 ≤ |x| ≤ 1/16: x + x ^ 2 times a polynomial of seven terms is within 17 * 2 ^ -52 of the exact value, relative to its own size.
 use Rattle.std.proofs.Common.{◌≡◌, ℕ, ◌^◌, ◌≤◌, Bool, true, false, not, T, ◌⊎◌, [], ◌∷◌, pos, sym, refl, ap, ◌∙◌, subst, ap₂, inl, inr, lit≤}
-use lib.Ieee.{Float, binary32, binary64, mul, fits, of_bits}
-use lib.Ieee.Fits.{mul-fits}
-use lib.Ieee.Scale.{finite}
+use Rattle.std.specs.Float.{Float, binary32, binary64, round_to_format}
+use Rattle.std.specs.Float.Ieee.{mul, fits, of_bits}
+use Rattle.std.specs.Float.Ieee.Fits.{mul-fits}
+use Rattle.std.specs.Float.Ieee.Scale.{finite}
 use std.Quotient.{cls}
 use Rattle.exact.specs.Exact.{expm1}
 use Rattle.exact.proofs.Ring.{con, ◌⊕◌, ◌⊖◌, ◌⊗◌, ⊝, norm}
@@ -23,7 +24,6 @@ use Rattle.rounding.proofs.MultiplyAdd.{slip₂, fma_err}
 use Rattle.rounding.proofs.Horner.{Ball, ball_size}
 use Rattle.rounding.proofs.Range.{FmaLaw, ranged_above}
 use Rattle.rounding.proofs.Limit.{limitℕ}
-use Rattle.std.specs.Float.{round_to_format}
 use Rattle.arithmetic.specs.Arithmetic.{Arithmetic, Lawful}
 use Rattle.curves.specs.Steps.{double, poly7}
 use Rattle.curves.specs.Expm1.{expm1_small_value}

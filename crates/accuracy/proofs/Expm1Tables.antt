@@ -1,8 +1,9 @@
 -- expm1 by its tables: the f64 before the narrowing is within 125 * 2 ^ -48 of the exact value, relative to its own size.
 use Rattle.std.proofs.Common.{◌≡◌, ℕ, ◌^◌, ◌≤◌, T, ◌⊎◌, [], ◌∷◌, pos, sym, refl, ◌∙◌, subst, inl, inr, le_refl, zero-lt-suc, lit≤, pow_pos}
-use lib.Ieee.{Float, binary32, binary64, mul, neg, fits, of_bits}
-use lib.Ieee.Fits.{mul-fits}
-use lib.Ieee.Scale.{finite}
+use Rattle.std.specs.Float.{Float, binary32, binary64}
+use Rattle.std.specs.Float.Ieee.{mul, neg, fits, of_bits}
+use Rattle.std.specs.Float.Ieee.Fits.{mul-fits}
+use Rattle.std.specs.Float.Ieee.Scale.{finite}
 use std.Quotient.{cls}
 use Rattle.exact.specs.Exact.{expm1}
 use Rattle.exact.proofs.Ring.{con, ◌⊕◌, ◌⊖◌, ◌⊗◌, ⊝, norm}

@@ -1,8 +1,9 @@
 -- From the law of an arithmetic to what the proofs use: a multiply-add on its range, and a rounding to a whole number below 2 ^ 22.
 use Rattle.std.proofs.Common.{◌≡◌, ℕ, suc, ◌*◌, ◌^◌, ◌≤◌, T, [], ◌∷◌, ℤ, pos, sym, refl, ap, ◌∙◌, subst, ap₂, inl, inr, zero-lt-suc, arith}
-use lib.Ieee.{Float, Format, nan, inf, fin, binary32, binary64, up, down, fits}
-use lib.Ieee.Fits.{down_pos}
-use lib.Ieee.Scale.{finite}
+use Rattle.std.specs.Float.{Float, Format, nan, inf, fin, binary32, binary64}
+use Rattle.std.specs.Float.Ieee.{up, down, fits}
+use Rattle.std.specs.Float.Ieee.Fits.{down_pos}
+use Rattle.std.specs.Float.Ieee.Scale.{finite}
 use std.Quotient.{cls}
 use Rattle.std.specs.Float as Std
 use Rattle.exact.specs.Fraction.{whole, integer, times, apart, ◌≼◌}

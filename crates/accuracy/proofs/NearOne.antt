@@ -1,8 +1,9 @@
 -- exp10 near one, up to 2 ^ -26: the f32 nearest to 10 ^ x is the one below 1 from 0xb25e5bd9 on, and 1 elsewhere.
 use Rattle.std.proofs.Common.{◌≡◌, ℕ, ◌+◌, ◌-◌, ◌^◌, ◌≤◌, Bool, true, false, not, ◌&&◌, T, ltb, leb, [], ◌∷◌, pos, negsuc, sym, refl, ap, ◌∙◌, subst, ap₂, inl, inr, arith, lit≤}
-use lib.Ieee.{Float, fin, binary32, fits, is_nan, of_bits, size}
-use lib.Ieee.Bits.{is_false}
-use lib.Ieee.Scale.{finite}
+use Rattle.std.specs.Float.{Float, fin, binary32}
+use Rattle.std.specs.Float.Ieee.{fits, is_nan, of_bits, size}
+use Rattle.std.specs.Float.Ieee.Bits.{is_false}
+use Rattle.std.specs.Float.Ieee.Scale.{finite}
 use std.Quotient.{cls}
 use Rattle.exact.specs.Fraction.{Fraction, times}
 use Rattle.exact.specs.Exponential.{at_least, at_most}

@@ -1,8 +1,9 @@
 -- Near zero exp2 and exp10 are 1 + x p(x): the last step and the way to the exact value, once for both; and p by its steps for each.
 use Rattle.std.proofs.Common.{ℕ, ◌^◌, ◌≤◌, T, [], ◌∷◌, sym, refl, ap, ◌∙◌, subst, le_trans, lit≤}
-use lib.Ieee.{Float, binary32, binary64, mul, of_bits, fits}
-use lib.Ieee.Fits.{mul-fits}
-use lib.Ieee.Scale.{finite}
+use Rattle.std.specs.Float.{Float, binary32, binary64}
+use Rattle.std.specs.Float.Ieee.{mul, of_bits, fits}
+use Rattle.std.specs.Float.Ieee.Fits.{mul-fits}
+use Rattle.std.specs.Float.Ieee.Scale.{finite}
 use Rattle.exact.specs.Logarithm.{Base}
 use Rattle.exact.specs.Laws.{of_base}
 use Rattle.exact.proofs.Ring.{◌⊕◌, ◌⊖◌, ◌⊗◌, ⊝, norm}

@@ -1,6 +1,6 @@
 -- The f32 next to a given one: every other above it is at least a unit higher, and every other below it at least as low as the one before it.
 use Rattle.std.proofs.Common.{◌≡◌, ℕ, ◌+◌, ◌*◌, ◌^◌, ◌≤◌, Bool, true, false, sym, refl, subst, inl, inr, le_of_lt, mul-le-mul_right, pow_pos}
-use lib.Ieee.{Float, binary32}
+use Rattle.std.specs.Float.{Float, binary32}
 use std.Quotient.{cls}
 use Rattle.exact.proofs.Rational.{ℚ}
 use Rattle.exact.proofs.Order.{◌≤q◌}

@@ -1,11 +1,11 @@
 -- From the f64 z that is narrowed to what is promised of the figure: z within 2 ^ -38 of its own size of the exact value makes the figure right, and any two such figures agree.
 use Rattle.std.proofs.Common.{◌≡◌, ℕ, ◌+◌, ◌-◌, ◌*◌, ◌^◌, ◌≤◌, Bool, true, false, not, T, [], ◌∷◌, pos, sym, refl, ap, ◌∙◌, subst, zero-lt-suc, arith, eqb→eq, pow_pos}
-use lib.Ieee.{Float, nan, inf, fin, binary32, up, down, fits}
-use lib.Ieee.Exact.{HasValue}
-use lib.Ieee.Fits.{round-fits}
-use lib.Ieee.Scale.{finite}
+use Rattle.std.specs.Float.{Float, nan, inf, fin, binary32, round_to_format}
+use Rattle.std.specs.Float.Ieee.{up, down, fits}
+use Rattle.std.specs.Float.Ieee.Exact.{HasValue}
+use Rattle.std.specs.Float.Ieee.Fits.{round-fits}
+use Rattle.std.specs.Float.Ieee.Scale.{finite}
 use std.Quotient.{cls}
-use Rattle.std.specs.Float.{round_to_format}
 use Rattle.exact.specs.Fraction.{Fraction, whole, times}
 use Rattle.exact.specs.Exponential.{within, at_least, at_most}
 use Rattle.exact.specs.Exact.{Function, AtLeast, AtMost}

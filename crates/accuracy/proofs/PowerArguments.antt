@@ -1,8 +1,9 @@
 -- Every argument that exp2 and exp10 hand to fma and to round lies in the ranges of the law, for every input that reaches it.
 use Rattle.std.proofs.Common.{◌≤◌, T}
-use lib.Ieee.{Float, binary32, binary64, fits, mul}
-use lib.Ieee.Fits.{mul-fits}
-use lib.Ieee.Scale.{finite}
+use Rattle.std.specs.Float.{Float, binary32, binary64}
+use Rattle.std.specs.Float.Ieee.{fits, mul}
+use Rattle.std.specs.Float.Ieee.Fits.{mul-fits}
+use Rattle.std.specs.Float.Ieee.Scale.{finite}
 use Rattle.exact.proofs.Rational.{◌+q◌, -q◌, ◌-q◌}
 use Rattle.exact.proofs.Order.{nn, ◌≤q◌}
 use Rattle.exact.proofs.Bound.{bound_more}

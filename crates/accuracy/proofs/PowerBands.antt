@@ -1,6 +1,7 @@
 -- The bands of exp2 and exp10 that need no table: infinity, 1 near one, +0; and exp2's 2 ^ -149 and whole numbers.
 use Rattle.std.proofs.Common.{◌≡◌, ℕ, suc, ◌-◌, ◌*◌, ◌^◌, ◌≤◌, false, T, [], ◌∷◌, ℤ, pos, negsuc, nat_abs, sym, refl, ap, ◌∙◌, subst, ap₂, zero-lt-suc, arith, lit≤, pow_pos}
-use lib.Ieee.{Float, inf, fin, binary32, fits, size}
+use Rattle.std.specs.Float.{Float, inf, fin, binary32}
+use Rattle.std.specs.Float.Ieee.{fits, size}
 use std.Quotient.{cls}
 use Rattle.exact.specs.Fraction.{Fraction, times, opposite, Same}
 use Rattle.exact.specs.Logarithm.{Base, binary, decimal, lowest}

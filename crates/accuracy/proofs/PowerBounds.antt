@@ -1,6 +1,6 @@
 -- The bounds of exp2 and exp10 before the narrowing, said with the exact value.
 use Rattle.std.proofs.Common.{ℕ, pos, sym, refl, ap, ◌∙◌, subst}
-use lib.Ieee.{Float}
+use Rattle.std.specs.Float.{Float}
 use std.Quotient.{cls}
 use Rattle.exact.specs.Fraction.{dyadic, times, absolute}
 use Rattle.exact.specs.Exponential.{within}

@@ -1,8 +1,9 @@
 -- The steps that exp2 and exp10 share past their splits: mh, a row with a power of two, times the polynomial at lo. What is computed is within 2 ^ -50 of it, in parts of mh, and every argument lies in the range of the law.
 use Rattle.std.proofs.Common.{◌≡◌, ◌^◌, T, [], ◌∷◌, pos, refl, subst, inr, lit≤}
-use lib.Ieee.{Float, binary64, mul, of_bits, fits}
-use lib.Ieee.Fits.{mul-fits}
-use lib.Ieee.Scale.{finite}
+use Rattle.std.specs.Float.{Float, binary64}
+use Rattle.std.specs.Float.Ieee.{mul, of_bits, fits}
+use Rattle.std.specs.Float.Ieee.Fits.{mul-fits}
+use Rattle.std.specs.Float.Ieee.Scale.{finite}
 use Rattle.exact.proofs.Ring.{con, ◌⊕◌, ◌⊖◌, ◌⊗◌, ⊝, norm}
 use Rattle.exact.proofs.Integer.{x₀, x₁, x₂, x₃, x₄, x₅, x₆, x₇}
 use Rattle.exact.proofs.Rational.{ℚ, ◌+q◌, ◌*q◌, -q◌, ◌-q◌, ofℤ, qring}

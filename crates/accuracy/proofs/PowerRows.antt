@@ -1,6 +1,6 @@
 -- The rows of exp2's and exp10's tables: 2 ^ (i / 64) and 2 ^ (i / 32), from 1 to 2 and within half a unit of 2 ^ -52.
 use Rattle.std.proofs.Common.{◌≡◌, ℕ, ◌+◌, ◌-◌, ◌*◌, ◌^◌, ◌<◌, ◌≤◌, false, T, List, [], ◌∷◌, length, get_or, pos, sym, refl, ap, ◌∙◌, subst, le_trans, zero-lt-suc, mul-pos, arith, lit≤, pow_pos, pow-add}
-use native.Mathlib.Nat.{le_of_suc-le}
+use Rattle.std.proofs.Math.Nat.{le_of_suc-le}
 use Rattle.exact.specs.Logarithm.{binary}
 use Rattle.exact.proofs.Ring.{con, ◌⊗◌, norm}
 use Rattle.exact.proofs.Integer.{x₀}

@@ -1,8 +1,10 @@
 -- A row with a power of two times the polynomial is within 2 ^ -43 of e ^ t, relative to it, where t is within 2 ^ -58 of the sum of the three logarithms: what exp2 and exp10 share.
 use Rattle.std.proofs.Common.{◌≡◌, ℕ, suc, ◌^◌, ◌<◌, ◌≤◌, T, [], ◌∷◌, ℤ, pos, negsuc, ◌+ℤ◌, ◌*ℤ◌, nat_abs, sym, refl, ap, ◌∙◌, subst, le_trans, arith, lit≤, pow_pos, pow_mono}
-use lib.Ieee.{Float, binary64, of_bits}
-use lib.Ieee.Scale.{finite}
-use borrow.Author.Differences.{ints, le_in}
+use Rattle.std.specs.Float.{Float, binary64}
+use Rattle.std.specs.Float.Ieee.{of_bits}
+use Rattle.std.specs.Float.Ieee.Scale.{finite}
+use Rattle.std.proofs.lemmas.Int.{ints}
+use borrow.Author.Differences.{le_in}
 use std.Quotient.{cls}
 use Rattle.exact.specs.Logarithm.{Base, binary}
 use Rattle.exact.proofs.Ring.{con, ◌⊕◌, ◌⊖◌, ◌⊗◌, ⊝, norm}

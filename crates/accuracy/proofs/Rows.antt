@@ -1,11 +1,12 @@
 -- The rows of exp's two tables: each is an f64 above 0, between 2 ^ -160 and 2 ^ 160, and the series at m, or at i / 128, is within 2 ^ -52 of it, relative to it.
 use Rattle.std.proofs.Common.{◌≡◌, ℕ, suc, ◌+◌, ◌-◌, ◌*◌, ◌/◌, ◌%◌, ◌^◌, ◌<◌, ◌≤◌, Bool, false, T, leb, length, get_or, pos, ◌-ℤ◌, nat_abs, sym, refl, ap, ◌∙◌, subst, le_trans, mul-le-mul_right, mod-lt, zero-lt-suc, mul-le-mul, pow-suc, arith, lit≤, le→leb, leb→le, pow_pos, pow_mono}
-use lib.Dec.{not_T}
-use lib.Ieee.{Float, binary64, of_bits, fits}
-use lib.Ieee.Exact.{HasValue}
-use lib.Ieee.Bits.{of_bits-fits, is_false}
-use lib.Ieee.Scale.{finite}
-use borrow.Author.Differences.{ints}
+use Rattle.std.specs.Float.{Float, binary64}
+use Rattle.std.specs.Float.Ieee.{of_bits, fits}
+use Rattle.std.specs.Float.Ieee.Exact.{HasValue}
+use Rattle.std.specs.Float.Ieee.Bits.{of_bits-fits, is_false}
+use Rattle.std.specs.Float.Ieee.Scale.{finite}
+use Rattle.std.proofs.Math.Dec.{not_T}
+use Rattle.std.proofs.lemmas.Int.{ints}
 use Rattle.exact.proofs.Rational.{ℚ, is, ofℤ}
 use Rattle.exact.proofs.Order.{◌≤q◌}
 use Rattle.exact.proofs.Bound.{ofℕ}

@@ -1,10 +1,11 @@
 -- The polynomial times a row of either table: the series at the sum of the three arguments is within 231 * 2 ^ -53 of the product, relative to it.
 use Rattle.std.proofs.Common.{ℕ, ◌*◌, ◌^◌, ◌<◌, ◌≤◌, T, [], ◌∷◌, get_or, pos, negsuc, ◌-ℤ◌, ◌*ℤ◌, refl, subst, le_trans, arith, lit≤, le→leb}
-use lib.Signed.{le_z}
-use lib.Ieee.{Float, binary64, mul, of_bits}
-use lib.Ieee.Scale.{finite}
+use Rattle.std.specs.Int.Signed.{le_z}
+use Rattle.std.specs.Float.{Float, binary64}
+use Rattle.std.specs.Float.Ieee.{mul, of_bits}
+use Rattle.std.specs.Float.Ieee.Scale.{finite}
+use Rattle.std.proofs.lemmas.Int.{ints}
 use borrow.Author.Differences as D
-use borrow.Author.Differences.{ints}
 use Rattle.exact.proofs.Ring.{con, ◌⊕◌, ◌⊖◌, ◌⊗◌, ⊝, norm}
 use Rattle.exact.proofs.Integer.{x₀, x₁, x₂, x₃, x₄}
 use Rattle.exact.proofs.Rational.{ℚ, ◌+q◌, ◌*q◌, -q◌, ◌-q◌, ofℤ, qring}

@@ -1,11 +1,11 @@
 -- A power of ten up to 10 ^ 10 is an f32, and the figure of an f64 within 2 ^ -42 of it is that f32.
 use Rattle.std.proofs.Common.{◌≡◌, ℕ, ◌+◌, ◌-◌, ◌*◌, ◌^◌, ◌<◌, ◌≤◌, Bool, false, T, eqb, ltb, [], ◌∷◌, replicate, pos, sym, refl, ap, ◌∙◌, subst, ap₂, inl, inr, le_trans, le_of_eq, le_of_lt, zero-lt-suc, arith, eqb→eq, ltb→lt, pow_pos, pow_mono, pow-add}
-use lib.Ieee.{Float, nan, inf, fin, binary32, fits, size}
-use lib.Ieee.Digits.{size-lt}
-use lib.Ieee.Exact.{HasValue}
-use lib.Ieee.Scale.{finite}
+use Rattle.std.specs.Float.{Float, nan, inf, fin, binary32, round_to_format}
+use Rattle.std.specs.Float.Ieee.{fits, size}
+use Rattle.std.specs.Float.Ieee.Digits.{size-lt}
+use Rattle.std.specs.Float.Ieee.Exact.{HasValue}
+use Rattle.std.specs.Float.Ieee.Scale.{finite}
 use std.Quotient.{cls}
-use Rattle.std.specs.Float.{round_to_format}
 use Rattle.exact.specs.Fraction.{Same, whole, absolute, apart, ◌≼◌}
 use Rattle.exact.proofs.Ring.{◌⊕◌, ◌⊗◌, norm}
 use Rattle.exact.proofs.Integer.{x₀, x₁}

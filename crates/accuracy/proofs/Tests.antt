@@ -1,8 +1,8 @@
 -- Tests of patterns, and which way a chain of them goes.
 use Rattle.std.proofs.Common.{◌≡◌, ℕ, ◌<◌, ◌≤◌, Bool, true, false, cond, ◌&&◌, ltb, leb, refl, ap, ◌∙◌, ap₂, arith, le→leb, ltb→lt, lt→ltb, leb→le}
-use lib.Dec.{not_T}
-use lib.Ieee.{Float}
-use lib.Ieee.Bits.{is_true, is_false}
+use Rattle.std.specs.Float.{Float}
+use Rattle.std.specs.Float.Ieee.Bits.{is_true, is_false}
+use Rattle.std.proofs.Math.Dec.{not_T}
 
 pub less : (m n : ℕ) → m < n → ltb m n ≡ true
 less m n h = is_true (ltb m n) (lt→ltb m n h)

@@ -1,9 +1,5 @@
 -- From sums to claims: what every sum from some place on says firmly holds of e ^ t, and of 2 ^ x and 10 ^ x; and one sum may decide.
-use mathlib.Core.Path.{◌≡◌, refl, sym, ap, ap₂, ◌∙◌, subst}
-use mathlib.Core.List.{[], ◌∷◌}
-use Prim.Native.Nat.{ℕ, ◌≤◌}
-use lib.Dec.{T}
-use lib.IntN.{pos}
+use Rattle.std.proofs.Common.{◌≡◌, refl, sym, ap, ap₂, ◌∙◌, subst, [], ◌∷◌, ℕ, ◌≤◌, T, pos}
 use std.Quotient.{cls}
 use Rattle.exact.specs.Fraction.{Fraction, whole, plus, times, absolute, difference, apart, ◌≼◌}
 use Rattle.exact.proofs.Ring.{con, ◌⊕◌, ◌⊖◌, ◌⊗◌, norm}

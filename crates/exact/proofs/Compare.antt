@@ -1,14 +1,8 @@
 -- Fractions and rationals: the operations and the order of the definitions are those of the rationals; a / c as a rational, and n / 2 ^ k.
-use mathlib.Core.Path.{◌≡◌, refl, sym, ap, ap₂, subst}
-use mathlib.Core.List.{[], ◌∷◌}
-use Prim.Native.Nat.{ℕ, suc, ◌+◌, ◌*◌, ◌^◌, ◌≤◌, ◌<◌}
-use native.Mathlib.Nat.{mul-le-mul_right}
-use native.Mathlib.Omega.{arith}
-use lib.Dec.{T, leb→le, le→leb}
-use lib.Pow.{pow_pos, pow-add, pow_mono}
-use lib.IntN.{ℤ, pos, negsuc, ◌+ℤ◌, ◌*ℤ◌, neg_ℤ, nat_abs}
-use lib.Signed.{le_z, non_neg}
-use borrow.Author.Differences.{ints, le_in, le_T, product_is, sum_is_lem, neg_is, not_negative_in, not_negative_out}
+use Rattle.std.proofs.Common.{◌≡◌, refl, sym, ap, ap₂, subst, [], ◌∷◌, ℕ, suc, ◌+◌, ◌*◌, ◌^◌, ◌≤◌, ◌<◌, mul-le-mul_right, arith, T, leb→le, le→leb, pow_pos, pow-add, pow_mono, ℤ, pos, negsuc, ◌+ℤ◌, ◌*ℤ◌, neg_ℤ, nat_abs}
+use Rattle.std.specs.Int.Signed.{le_z, non_neg}
+use Rattle.std.proofs.lemmas.Int.{ints}
+use borrow.Author.Differences.{le_in, le_T, product_is, sum_is_lem, neg_is, not_negative_in, not_negative_out}
 use std.Quotient.{cls}
 use Rattle.exact.specs.Fraction.{Fraction, fraction, integer, whole, part, plus, times, opposite, absolute, difference, ◌≼◌}
 use Rattle.exact.proofs.Ring.{◌⊕◌, ◌⊗◌, ⊝, norm}

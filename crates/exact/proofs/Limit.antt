@@ -1,14 +1,11 @@
 -- What is at most b + c / (d + 1) for every d is at most b; a whole number above each fraction.
-use mathlib.Core.Path.{refl, subst}
-use mathlib.Core.List.{[], ◌∷◌}
-use Prim.Native.Nat.{ℕ, zero, suc, ◌*◌, ◌≤◌}
-use native.Mathlib.Nat.{zero-lt-suc, le-suc, mul-le-mul_right, mul-le-mul_left}
-use native.Mathlib.Omega.{arith}
-use lib.Dec.{T, le→leb, T_prop}
-use lib.IntN.{ℤ, pos, negsuc, ◌+ℤ◌, ◌*ℤ◌, nat_abs}
-use lib.Signed.{le_z, non_neg}
+use Rattle.std.proofs.Common.{refl, subst, [], ◌∷◌, ℕ, zero, suc, ◌*◌, ◌≤◌, zero-lt-suc, mul-le-mul_right, mul-le-mul_left, arith, T, le→leb, ℤ, pos, negsuc, ◌+ℤ◌, ◌*ℤ◌, nat_abs}
+use Rattle.std.specs.Int.Signed.{le_z, non_neg}
+use Rattle.std.proofs.Math.Nat.{le-suc}
+use Rattle.std.proofs.Math.Dec.{T_prop}
 use borrow.Author.Differences.{le_in, product_is, sum_is_lem, not_negative_out}
 use std.Quotient.{cls, /_elim_prop}
+use mathlib.Core.HLevel.{Π_prop}
 use Rattle.exact.specs.Fraction.{Fraction, whole, ◌≼◌}
 use Rattle.exact.proofs.Ring.{◌⊕◌, ◌⊖◌, norm}
 use Rattle.exact.proofs.Integer.{x₀, x₁, x₂}
@@ -16,7 +13,6 @@ use Rattle.exact.proofs.Rational.{ℚ, ◌+q◌, ◌*q◌, -q◌, ◌-q◌, of�
 use Rattle.exact.proofs.Order.{nn, ◌≤q◌, q_refl, q_trans, q_add}
 use Rattle.exact.proofs.Bound.{ofℕ, inv}
 use Rattle.exact.proofs.Compare.{leq_in, bound_abs}
-use mathlib.Core.HLevel.{Π_prop}
 
 nn_limit : (q : ℚ) → ((d : ℕ) → T (nn (q +q inv d))) → T (nn q)
 unfolding nn ◌+q◌ inv

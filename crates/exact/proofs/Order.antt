@@ -1,15 +1,9 @@
 -- The order of the rationals.
-use mathlib.Core.Path.{◌≡◌, refl, sym, ap, ◌∙◌, subst}
-use mathlib.Core.Bool.{Bool, true, false, not, Bool-set}
-use mathlib.Core.List.{[], ◌∷◌}
-use mathlib.Core.Logic.{inl, inr, ◌⊎◌}
+use Rattle.std.proofs.Common.{◌≡◌, refl, sym, ap, ◌∙◌, subst, Bool, true, false, not, [], ◌∷◌, inl, inr, ◌⊎◌, zero, suc, ◌*◌, ◌≤◌, mul-le-mul_right, le_of_mul-le-mul_right, arith, T, ℤ, pos, negsuc, ◌+ℤ◌, ◌*ℤ◌, neg_ℤ}
+use Rattle.std.specs.Int.Signed.{non_neg}
+use Rattle.std.proofs.Math.Bool.{Bool-set}
+use Rattle.std.proofs.Math.Dec.{T_prop}
 use mathlib.Core.HLevel.{Π_prop}
-use Prim.Native.Nat.{zero, suc, ◌*◌, ◌≤◌}
-use native.Mathlib.Nat.{mul-le-mul_right, le_of_mul-le-mul_right}
-use native.Mathlib.Omega.{arith}
-use lib.Dec.{T, T_prop}
-use lib.IntN.{ℤ, pos, negsuc, ◌+ℤ◌, ◌*ℤ◌, neg_ℤ}
-use lib.Signed.{non_neg}
 use borrow.Author.Differences.{up, down, same_out, product_is, sum_is_lem, not_negative_in, not_negative_out}
 use std.Quotient.{/_set, /_rec, /_elim_prop, /_elim_prop₂}
 use Rattle.exact.proofs.Ring.{con, ◌⊕◌, ◌⊖◌, ◌⊗◌, ⊝, norm}

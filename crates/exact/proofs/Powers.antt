@@ -1,12 +1,6 @@
 -- Whole powers by the series: where the sums at b are near β, those at k b are near β ^ k. With ln 2 and ln 10 for b, of either sign, β is 2 and 10, 1/2 and 1/10.
-use mathlib.Core.Path.{◌≡◌, refl, sym, ap, ap₂, ◌∙◌, subst}
-use mathlib.Core.List.{[], ◌∷◌}
-use Prim.Native.Nat.{ℕ, zero, suc, ◌+◌, ◌-◌, ◌*◌, ◌^◌, ◌≤◌, ◌<◌}
-use native.Mathlib.Nat.{le_trans, le_of_suc-le, pow-suc, pow-zero}
-use native.Mathlib.Omega.{arith}
-use lib.Dec.{T, lit≤}
-use lib.Pow.{pow_pos, pow-add, pow_mono}
-use lib.IntN.{ℤ, pos, negsuc, neg_ℤ, nat_abs}
+use Rattle.std.proofs.Common.{◌≡◌, refl, sym, ap, ap₂, ◌∙◌, subst, [], ◌∷◌, ℕ, zero, suc, ◌+◌, ◌-◌, ◌*◌, ◌^◌, ◌≤◌, ◌<◌, le_trans, pow-suc, arith, T, lit≤, pow_pos, pow-add, pow_mono, ℤ, pos, negsuc, neg_ℤ, nat_abs}
+use Rattle.std.proofs.Math.Nat.{le_of_suc-le, pow-zero}
 use Rattle.exact.specs.Fraction.{integer}
 use Rattle.exact.proofs.Ring.{con, ◌⊕◌, ◌⊖◌, ◌⊗◌, ⊝, norm}
 use Rattle.exact.proofs.Integer.{x₀, x₁, x₂, x₃}

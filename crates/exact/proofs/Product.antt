@@ -1,10 +1,5 @@
 -- The product of two sums of the exponential series is the sum at the sum of the arguments, up to what R bounds.
-use mathlib.Core.Path.{◌≡◌, refl, sym, ap, ◌∙◌, subst}
-use mathlib.Core.List.{[], ◌∷◌}
-use Prim.Native.Nat.{ℕ, zero, suc}
-use native.Mathlib.Numerals.{one-add}
-use lib.Dec.{T}
-use lib.IntN.{pos}
+use Rattle.std.proofs.Common.{◌≡◌, refl, sym, ap, ◌∙◌, subst, [], ◌∷◌, ℕ, zero, suc, one-add, T, pos}
 use Rattle.exact.proofs.Ring.{Expr, con, ◌⊕◌, ◌⊖◌, ◌⊗◌, norm}
 use Rattle.exact.proofs.Integer.{x₀, x₁, x₂, x₃, x₄, x₅, x₆, x₇, x₈}
 use Rattle.exact.proofs.Rational.{ℚ, ◌+q◌, ◌*q◌, -q◌, ◌-q◌, ofℤ, qring}

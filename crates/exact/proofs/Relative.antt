@@ -1,7 +1,5 @@
 -- Errors relative to a number that is not negative.
-use mathlib.Core.Path.{refl, subst}
-use mathlib.Core.List.{[], ◌∷◌}
-use lib.Dec.{T}
+use Rattle.std.proofs.Common.{refl, subst, [], ◌∷◌, T}
 use Rattle.exact.proofs.Ring.{◌⊕◌, ◌⊖◌, ◌⊗◌, norm}
 use Rattle.exact.proofs.Integer.{x₀, x₁, x₂, x₃}
 use Rattle.exact.proofs.Rational.{ℚ, ◌+q◌, ◌*q◌, -q◌, ◌-q◌, qring}

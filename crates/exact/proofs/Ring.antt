@@ -1,11 +1,8 @@
 -- A normaliser for commutative rings: two expressions with the same normal form have the same value in every commutative ring.
 -- Coefficients are integers, and `of` carries them into the ring.
-use mathlib.Core.Path.{◌≡◌, refl, sym, ap, ap₂, ◌∙◌}
-use mathlib.Core.Bool.{Bool, true, false}
-use mathlib.Core.List.{List, [], ◌∷◌}
-use Prim.Native.Nat.{ℕ, zero, suc, compare, Ordering}
-use lib.Dec.{T, leb, compare_is_eq, eqb→eq}
-use lib.IntN.{ℤ, pos, negsuc, ◌+ℤ◌, ◌*ℤ◌}
+use Rattle.std.proofs.Common.{◌≡◌, refl, sym, ap, ap₂, ◌∙◌, Bool, true, false, List, [], ◌∷◌, ℕ, zero, suc, T, leb, eqb→eq, ℤ, pos, negsuc, ◌+ℤ◌, ◌*ℤ◌}
+use Rattle.std.proofs.Math.Dec.{compare_is_eq}
+use Prim.Native.Nat.{compare, Ordering}
 
 pub record CRing : Type 1 where
   pub carrier : Type 0

@@ -1,14 +1,5 @@
 -- Tables: one computed test over a whole table gives each row its rule, for every sum, and every bracket. A row is a whole number x that stands for num x / l, with the unit unit x / l.
-use mathlib.Core.Path.{◌≡◌, refl, sym, ap, ◌∙◌, subst}
-use mathlib.Core.Bool.{Bool, true, false}
-use mathlib.Core.List.{List, [], ◌∷◌}
-use Prim.Native.Nat.{ℕ, zero, suc, ◌+◌, ◌*◌, ◌^◌, ◌≤◌, ◌<◌}
-use native.Mathlib.Nat.{zero-lt-suc, mul-pos, mul-le-mul_right}
-use native.Mathlib.Omega.{arith}
-use lib.Dec.{T, leb, lit≤, leb→le, le→leb}
-use lib.Pow.{pow_pos}
-use lib.IntN.{ℤ, pos, nat_abs}
-use lib.ListN.{length, get_or}
+use Rattle.std.proofs.Common.{◌≡◌, refl, sym, ap, ◌∙◌, subst, Bool, true, false, List, [], ◌∷◌, ℕ, zero, suc, ◌+◌, ◌*◌, ◌^◌, ◌≤◌, ◌<◌, zero-lt-suc, mul-pos, mul-le-mul_right, arith, T, leb, lit≤, leb→le, le→leb, pow_pos, ℤ, pos, nat_abs, length, get_or, mul-le-mul, add-zero, zero-add, add-suc, suc-add, le_of_suc-le-suc, not-suc-le-zero}
 use Rattle.exact.specs.Fraction.{fraction}
 use Rattle.exact.proofs.Ring.{con, ◌⊖◌, ◌⊗◌, norm}
 use Rattle.exact.proofs.Integer.{x₀, x₁, x₂}
@@ -16,7 +7,6 @@ use Rattle.exact.proofs.Rational.{ℚ, is, ◌+q◌, ◌*q◌, -q◌, ◌-q◌, 
 use Rattle.exact.proofs.Order.{nn, ◌≤q◌, q_trans, q_mul}
 use Rattle.exact.proofs.Bound.{ofℕ, inv, nn_ofℕ, Bound, bound_more, bound_mul, bound_self, bound_turn, bound_via, bound_above}
 use Rattle.exact.proofs.Compare.{whole_cls, leq_in, fr, fr_le, nn_fr, dy, nn_dy}
-use native.Mathlib.Nat.{mul-le-mul, add-zero, zero-add, add-suc, suc-add, le_of_suc-le-suc, not-suc-le-zero}
 use Rattle.exact.specs.Exponential.{within}
 use Rattle.exact.specs.Logarithm.{Base, binary, decimal}
 use Rattle.exact.specs.Exact.{OfExp, OfPower}

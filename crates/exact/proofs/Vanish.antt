@@ -1,12 +1,6 @@
 -- The rest of the series vanishes: from some place on it is below every positive fraction.
-use mathlib.Core.Path.{◌≡◌, refl, sym, ap, ◌∙◌, subst}
-use mathlib.Core.List.{[], ◌∷◌}
-use Prim.Native.Nat.{ℕ, zero, suc, ◌+◌, ◌-◌, ◌*◌, ◌^◌, ◌≤◌, ◌<◌}
-use native.Mathlib.Nat.{le_trans, le-suc, pow-suc}
-use native.Mathlib.Omega.{arith}
-use lib.Dec.{T, lit≤}
-use lib.Pow.{pow_pos}
-use lib.IntN.{pos}
+use Rattle.std.proofs.Common.{◌≡◌, refl, sym, ap, ◌∙◌, subst, [], ◌∷◌, ℕ, zero, suc, ◌+◌, ◌-◌, ◌*◌, ◌^◌, ◌≤◌, ◌<◌, le_trans, pow-suc, arith, T, lit≤, pow_pos, pos}
+use Rattle.std.proofs.Math.Nat.{le-suc}
 use std.Quotient.{cls}
 use Rattle.exact.specs.Fraction.{Fraction}
 use Rattle.exact.proofs.Ring.{con, ◌⊕◌, ◌⊗◌, norm}

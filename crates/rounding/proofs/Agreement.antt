@@ -1,23 +1,21 @@
 -- Two figures of floats that are both near v, relative to their own sizes: equal, or neighbouring with v within d units of the lesser of their midpoint.
 use Rattle.std.proofs.Common.{◌≡◌, ℕ, ◌-◌, ◌*◌, ◌^◌, ◌<◌, ◌≤◌, Bool, true, false, cond, not, T, [], ◌∷◌, pos, ◌*ℤ◌, sym, refl, ap, ◌∙◌, subst, inl, inr, mul-le-mul_right, le_of_mul-le-mul_right, T_not, pow_pos}
-use lib.Signed.{le_z}
-use lib.Ieee.{Float, Format, prec, low, size, le}
-use lib.Ieee.Exact.{HasValue}
-use lib.Ieee.Scale.{grid, finite}
+use Rattle.std.specs.Int.Signed.{le_z, le_z_yes}
+use Rattle.std.specs.Float.{Float, Format, round_to_format}
+use Rattle.std.specs.Float.Ieee.{prec, low, size, le}
+use Rattle.std.specs.Float.Ieee.Exact.{HasValue}
+use Rattle.std.specs.Float.Ieee.Scale.{grid, finite}
 use std.Quotient.{cls}
-use Rattle.std.specs.Float.{round_to_format}
 use Rattle.exact.specs.Fraction.{whole, part, plus, times, absolute, apart, ◌≼◌}
 use Rattle.exact.proofs.Ring.{con, ◌⊕◌, ◌⊖◌, ◌⊗◌, norm}
 use Rattle.exact.proofs.Integer.{zring, x₀, x₁, x₂, x₃}
-use Rattle.exact.proofs.Rational.{ℚ, is, ◌+q◌, ◌*q◌, -q◌, ◌-q◌, ofℤ, qring}
+use Rattle.exact.proofs.Rational.{ℚ, is, ◌+q◌, ◌*q◌, -q◌, ◌-q◌, ofℤ, qring, add_commq}
 use Rattle.exact.proofs.Order.{nn, nn_add, nn_mul, ◌≤q◌, le_by, q_refl, q_trans, q_add, q_neg, q_mul}
 use Rattle.exact.proofs.Bound.{ofℕ, inv, nn_ofℕ, le_nn, Bound, bound_more, bound_nn, absq, bound_abs}
 use Rattle.rounding.specs.Values.{value, is_zero}
 use Rattle.rounding.specs.Units.{unit}
 use Rattle.rounding.specs.Nearest.{Neighbouring}
 use Rattle.rounding.specs.Errors.{middle, Pair, equal, zeros, beside, nearer_zero, FiguresAgree}
-use lib.Signed.{le_z_yes}
-use Rattle.exact.proofs.Rational.{add_commq}
 use Rattle.rounding.proofs.Gaps as Gaps
 use Rattle.rounding.proofs.Relative.{mul_right}
 use Rattle.rounding.proofs.Fractions.{frac, dy, frac_le, frac_le_out, nn_frac}

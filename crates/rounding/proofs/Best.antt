@@ -1,10 +1,11 @@
 -- What `round` gives is a nearest value of the format: no value of the format is nearer. Distances are of whole numbers.
 use Rattle.std.proofs.Common.{◌≡◌, ℕ, suc, ◌+◌, ◌-◌, ◌*◌, ◌^◌, ◌<◌, ◌≤◌, ◌⊎◌, sym, ap, ◌∙◌, subst, inl, inr, le_trans, le_of_eq, mul-le-mul_right, mul_assoc, mul_comm, eq-zero-or-pos, mul-pos, mul_left_comm, arith, pow_pos, pow_mono, pow-add}
-use lib.Ieee.{Format, prec, low, fits}
-use lib.Ieee.Fits.{two, two-le_pos}
-use lib.Ieee.Nearest.{closest}
-use lib.Ieee.Order.{drop, kept}
-use lib.Ieee.Scale.{grid}
+use Rattle.std.specs.Float.{Format}
+use Rattle.std.specs.Float.Ieee.{prec, low, fits}
+use Rattle.std.specs.Float.Ieee.Fits.{two, two-le_pos}
+use Rattle.std.specs.Float.Ieee.Nearest.{closest}
+use Rattle.std.specs.Float.Ieee.Order.{drop, kept}
+use Rattle.std.specs.Float.Ieee.Scale.{grid}
 use Rattle.rounding.proofs.HalfUnit.{Half, closest_half, unit_small}
 
 abbrev pub dist : ℕ → ℕ → ℕ

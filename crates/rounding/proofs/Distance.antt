@@ -1,8 +1,9 @@
 -- Distances of fractions, as whole numbers and as rationals.
 use Rattle.std.proofs.Common.{◌≡◌, ℕ, zero, suc, ◌+◌, ◌*◌, ◌<◌, ◌≤◌, Bool, true, false, T, [], ◌∷◌, ℤ, pos, negsuc, ◌+ℤ◌, ◌*ℤ◌, neg_ℤ, nat_abs, sym, refl, ap, ◌∙◌, subst, ap₂, le_trans, le_of_eq, mul-le-mul_right, mul-pos, le_of_mul-le-mul_right, arith, le→leb, leb→le}
-use lib.Signed.{non_neg}
-use lib.Ieee.Bits.{is_true}
-use borrow.Author.Differences.{ints, same_in, le_T}
+use Rattle.std.specs.Int.Signed.{non_neg, le_z_yes}
+use Rattle.std.specs.Float.Ieee.Bits.{is_true}
+use Rattle.std.proofs.lemmas.Int.{ints}
+use borrow.Author.Differences.{same_in, le_T}
 use std.Quotient.{cls}
 use Rattle.exact.specs.Fraction.{plus, times, whole, Fraction, Same, absolute, difference, apart, ◌≼◌}
 use Rattle.exact.proofs.Ring.{◌⊕◌, ◌⊖◌, ◌⊗◌, ⊝, norm}
@@ -11,7 +12,6 @@ use Rattle.exact.proofs.Rational.{◌*q◌, ofℤ, ℚ, ◌+q◌, -q◌, ◌-q�
 use Rattle.exact.proofs.Order.{nn, nn_add, ◌≤q◌, le_by, q_refl, q_neg, q_antisym}
 use Rattle.exact.proofs.Bound.{ofℕ, Bound, bound_more, bound_add, bound_neg, absq, bound_abs, pick}
 use Rattle.rounding.specs.Values.{signed}
-use lib.Signed.{le_z_yes}
 use Rattle.rounding.proofs.Fractions.{frac, fr, signed_scale, leq_in, leq_out}
 use Rattle.rounding.proofs.Best.{dist}
 

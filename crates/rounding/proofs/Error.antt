@@ -1,8 +1,9 @@
 -- The error of one rounding, as a rational: at most M * 2 ^ -prec and half of the smallest value, for a number of at most M in size.
 use Rattle.std.proofs.Common.{◌≡◌, ℕ, suc, ◌+◌, ◌-◌, ◌*◌, ◌^◌, ◌<◌, ◌≤◌, Bool, false, T, [], ◌∷◌, pos, sym, refl, ap, ◌∙◌, subst, le_trans, le_of_eq, lt_of_le_of_lt, mul-le-mul_right, zero-lt-suc, mul_assoc, mul_comm, mul-le-mul_left, mul-pos, le_of_mul-le-mul_right, mul_left_comm, arith, pow_pos, pow-add}
-use lib.Pow.{pow-lt}
-use lib.Ieee.{Float, Format, binary32, binary64, prec, emax, low, round}
-use lib.Ieee.Scale.{grid, overflow, finite, normal_of_fraction}
+use Rattle.std.specs.Float.{Float, Format, binary32, binary64}
+use Rattle.std.specs.Float.Ieee.{prec, emax, low, round}
+use Rattle.std.specs.Float.Ieee.Scale.{grid, overflow, finite, normal_of_fraction}
+use Rattle.std.proofs.Math.Pow.{pow-lt}
 use Rattle.exact.proofs.Ring.{con, ◌⊕◌, ◌⊗◌, norm}
 use Rattle.exact.proofs.Integer.{zring, x₀, x₁, x₂, x₃}
 use Rattle.exact.proofs.Rational.{ℚ, is, ◌+q◌, ◌*q◌, -q◌, ◌-q◌, ofℤ, qring}

@@ -1,8 +1,9 @@
 -- How far a rounded result is off, for whatever is nearest to its number.
 use Rattle.std.proofs.Common.{◌≡◌, ℕ, suc, ◌-◌, ◌*◌, ◌^◌, ◌<◌, ◌≤◌, Bool, true, false, not, T, [], ◌∷◌, ℤ, pos, sym, refl, ap, ◌∙◌, subst, ap₂, inl, inr, le_trans, le_of_eq, zero-lt-suc, arith, pow_pos}
-use lib.Ieee.{Float, nan, inf, fin, Format, binary32, binary64, prec, emax, low, round, mul}
-use lib.Ieee.Exact.{HasValue}
-use lib.Ieee.Scale.{finite, grid}
+use Rattle.std.specs.Float.{Float, nan, inf, fin, Format, binary32, binary64}
+use Rattle.std.specs.Float.Ieee.{prec, emax, low, round, mul}
+use Rattle.std.specs.Float.Ieee.Exact.{HasValue}
+use Rattle.std.specs.Float.Ieee.Scale.{finite, grid}
 use std.Quotient.{cls}
 use Rattle.exact.specs.Fraction.{Same, Fraction, whole, plus, times, absolute, ◌≼◌}
 use Rattle.exact.proofs.Ring.{con, ◌⊕◌, ◌⊖◌, ◌⊗◌, norm}

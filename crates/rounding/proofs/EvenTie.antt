@@ -1,16 +1,17 @@
 -- Where another value of the format is as near as the result of `round`, the significand of the result is even. In whole numbers.
 use Rattle.std.proofs.Common.{◌≡◌, ℕ, zero, suc, ◌+◌, ◌-◌, ◌*◌, ◌/◌, ◌%◌, ◌^◌, ◌<◌, ◌≤◌, Bool, true, false, cond, ℤ, sym, refl, ap, ◌∙◌, subst, inl, inr, le_trans, le_of_eq, le_refl, mul-le-mul_right, mod-lt, mul_assoc, mul_comm, eq-zero-or-pos, le_antisymm, mul-lt-mul_of_pos_right, mul-pos, pow-suc, div-add-mod', mul-one, not-le_of_lt, le_of_mul-le-mul_right, mul-div_cancel, mul_left_comm, arith, pow_pos, pow_mono, pow-add}
+use Rattle.std.specs.Float.{Float, nan, inf, fin, Format, binary32, binary64}
+use Rattle.std.specs.Float.Ieee.{prec, low, hid, top, up, down, size, nearest, to_bits}
+use Rattle.std.specs.Float.Ieee.Digits.{size-le}
+use Rattle.std.specs.Float.Ieee.Fits.{two, two-le_pos, down_pos}
+use Rattle.std.specs.Float.Ieee.Exact.{HasValue}
+use Rattle.std.specs.Float.Ieee.Nearest.{closest}
+use Rattle.std.specs.Float.Ieee.Order.{drop, kept}
+use Rattle.std.specs.Float.Ieee.Scale.{grid}
+use Rattle.std.proofs.Math.Arith.{lt_of_le-ne}
+use Rattle.std.proofs.Math.Pow.{pow-lt}
+use Rattle.std.proofs.Math.Nat.{mul-mod_left}
 use Prim.Native.Nat.{compare, Ordering}
-use lib.Arith.{lt_of_le-ne}
-use lib.Pow.{pow-lt}
-use lib.Ieee.{Float, nan, inf, fin, Format, binary32, binary64, prec, low, hid, top, up, down, size, nearest, to_bits}
-use lib.Ieee.Digits.{size-le}
-use lib.Ieee.Fits.{two, two-le_pos, down_pos}
-use lib.Ieee.Exact.{HasValue}
-use lib.Ieee.Nearest.{closest}
-use lib.Ieee.Order.{drop, kept}
-use lib.Ieee.Scale.{grid}
-use native.Mathlib.Nat.{mul-mod_left}
 use Rattle.rounding.proofs.HalfUnit.{Cmp, cmp, unit_small}
 use Rattle.rounding.proofs.Best.{dist, order, closest_best}
 use Rattle.rounding.proofs.Narrow.{unit_figure, size_gt, kept_le}

@@ -1,9 +1,10 @@
 -- Where a rounding changes nothing: a number that the format holds, and so a multiple of 2 ^ -k of few digits.
 use Rattle.std.proofs.Common.{◌≡◌, ℕ, suc, ◌-◌, ◌*◌, ◌^◌, ◌<◌, ◌≤◌, Bool, false, T, sym, ap, ◌∙◌, subst, inl, inr, le_trans, le_of_eq, lt_of_lt_of_le, lt_of_le_of_lt, mul-le-mul_right, mul_assoc, mul_comm, mul-le-mul, mul-lt-mul_of_pos_right, arith, pow_pos, pow_mono, pow-add}
-use lib.Ieee.{Float, Format, prec, emax, low, round, mul, fits}
-use lib.Ieee.Fits.{reach}
-use lib.Ieee.Exact.{HasValue, round_exact}
-use lib.Ieee.Scale.{overflow, finite}
+use Rattle.std.specs.Float.{Float, Format}
+use Rattle.std.specs.Float.Ieee.{prec, emax, low, round, mul, fits}
+use Rattle.std.specs.Float.Ieee.Fits.{reach}
+use Rattle.std.specs.Float.Ieee.Exact.{HasValue, round_exact}
+use Rattle.std.specs.Float.Ieee.Scale.{overflow, finite}
 use Rattle.exact.proofs.Rational.{ℚ, ◌+q◌, ◌*q◌}
 use Rattle.exact.proofs.Bound.{Bound}
 use Rattle.rounding.specs.Ranges.{Permitted, once, twice}

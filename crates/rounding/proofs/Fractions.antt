@@ -1,8 +1,9 @@
 -- Fractions ±a / c as rationals: products, sums, order and distance, each as a fact about whole numbers, multiplied out.
 use Rattle.std.proofs.Common.{◌≡◌, ℕ, suc, ◌+◌, ◌-◌, ◌*◌, ◌^◌, ◌<◌, ◌≤◌, Bool, true, false, T, [], ◌∷◌, ℤ, pos, negsuc, ◌+ℤ◌, ◌*ℤ◌, neg_ℤ, sym, refl, ap, ◌∙◌, subst, mul-pos, arith, le→leb, leb→le, pow_pos}
-use lib.Signed.{non_neg, le_z}
-use lib.Ieee.{unlike}
-use borrow.Author.Differences.{ints, sum_is_lem, neg_is, not_negative_in, not_negative_out, le_T, le_in}
+use Rattle.std.specs.Int.Signed.{non_neg, le_z}
+use Rattle.std.specs.Float.Ieee.{unlike}
+use Rattle.std.proofs.lemmas.Int.{ints}
+use borrow.Author.Differences.{sum_is_lem, neg_is, not_negative_in, not_negative_out, le_T, le_in}
 use std.Quotient.{cls}
 use Rattle.exact.specs.Fraction.{Fraction}
 use Rattle.exact.proofs.Ring.{con, ◌⊕◌, ◌⊖◌, ◌⊗◌, ⊝, norm}

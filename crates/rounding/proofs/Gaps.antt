@@ -1,12 +1,14 @@
 -- The gaps between values of a format: at least a unit of the lower one. In whole numbers of smallest values.
 use Rattle.std.proofs.Common.{◌≡◌, ℕ, suc, ◌+◌, ◌-◌, ◌*◌, ◌^◌, ◌<◌, ◌≤◌, Bool, true, false, not, T, ℤ, pos, ◌+ℤ◌, neg_ℤ, sym, refl, ap, ◌∙◌, subst, inl, inr, le_trans, le_of_eq, lt_of_le_of_lt, le_of_lt, lt_irrefl, mul-le-mul_right, mul_assoc, eq-zero-or-pos, le_antisymm, lt_of_mul-lt-mul_right, zero-mul, not-le_of_lt, arith, pow_mono, pow-add}
-use lib.Signed.{le_z}
-use lib.Ieee.{Format, prec, low, size}
-use lib.Ieee.Digits.{size-lt, size-le, size_reaches}
-use lib.Ieee.Fits.{two}
-use lib.Ieee.Order.{drop, kept}
-use lib.Ieee.Scale.{grid}
-use borrow.Author.Differences.{ints, le_in}
+use Rattle.std.specs.Int.Signed.{le_z}
+use Rattle.std.specs.Float.{Format}
+use Rattle.std.specs.Float.Ieee.{prec, low, size}
+use Rattle.std.specs.Float.Ieee.Digits.{size-lt, size-le, size_reaches}
+use Rattle.std.specs.Float.Ieee.Fits.{two}
+use Rattle.std.specs.Float.Ieee.Order.{drop, kept}
+use Rattle.std.specs.Float.Ieee.Scale.{grid}
+use Rattle.std.proofs.lemmas.Int.{ints}
+use borrow.Author.Differences.{le_in}
 use Rattle.rounding.specs.Values.{signed}
 use Rattle.rounding.proofs.Best.{order}
 use Rattle.rounding.proofs.Narrow.{unit_of, kept_le}

@@ -1,15 +1,16 @@
 -- How far `round` goes: half a unit at most, and in the normal range 2 ^ -prec of the number at most. In whole numbers.
 use Rattle.std.proofs.Common.{◌≡◌, ℕ, zero, suc, ◌+◌, ◌-◌, ◌*◌, ◌/◌, ◌%◌, ◌^◌, ◌<◌, ◌≤◌, Bool, not, T, eqb, ◌⊎◌, sym, refl, ap, subst, inl, inr, le_trans, le_of_eq, mul-le-mul_right, mod-lt, mul_assoc, mul_comm, mul-pos, div-add-mod', le-div_iff_mul-le, mul_left_comm, arith, eqb→eq, leb→le, pow_pos, pow-add}
+use Rattle.std.specs.Float.{Float, Format}
+use Rattle.std.specs.Float.Ieee.{prec, low, size, nearest, round}
+use Rattle.std.specs.Float.Ieee.Digits.{size_reaches}
+use Rattle.std.specs.Float.Ieee.Fits.{two, two-le_pos, round_is}
+use Rattle.std.specs.Float.Ieee.Exact.{HasValue, units_val}
+use Rattle.std.specs.Float.Ieee.Nearest.{closest}
+use Rattle.std.specs.Float.Ieee.Order.{drop, kept}
+use Rattle.std.specs.Float.Ieee.Scale.{grid, overflow}
+use Rattle.std.proofs.Math.Dec.{is_le, compare_is_eq, nleb→lt, eqb_refl}
+use Rattle.std.proofs.Math.Arith.{lt_of_le-ne}
 use Prim.Native.Nat.{compare, Ordering}
-use lib.Dec.{is_le, compare_is_eq, nleb→lt, eqb_refl}
-use lib.Arith.{lt_of_le-ne}
-use lib.Ieee.{Float, Format, prec, low, size, nearest, round}
-use lib.Ieee.Digits.{size_reaches}
-use lib.Ieee.Fits.{two, two-le_pos, round_is}
-use lib.Ieee.Exact.{HasValue, units_val}
-use lib.Ieee.Nearest.{closest}
-use lib.Ieee.Order.{drop, kept}
-use lib.Ieee.Scale.{grid, overflow}
 
 abbrev pub Cmp : Ordering → ℕ → ℕ → Type 0
 Cmp Ordering.lt a b = a < b

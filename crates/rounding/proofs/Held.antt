@@ -1,10 +1,11 @@
 -- What a format holds: a value of at most prec digits, in units of the smallest; a multiple of the smallest; and the larger, the coarser.
 use Rattle.std.proofs.Common.{◌≡◌, ℕ, zero, suc, ◌+◌, ◌-◌, ◌*◌, ◌%◌, ◌^◌, ◌<◌, ◌≤◌, Bool, ◌&&◌, T, eqb, ltb, leb, ◌⊎◌, ℤ, pos, negsuc, sym, refl, ap, ◌∙◌, subst, inl, inr, le_trans, le_of_eq, le_refl, lt_of_lt_of_le, lt_of_le_of_lt, mul_assoc, mul_comm, mul-le-mul, mul-lt-mul_of_pos_right, lt_of_not-le, not-le_of_lt, arith, ltb→lt, leb→le, pow_pos, pow_mono, pow-add}
-use lib.Pow.{pow-lt}
-use lib.Ieee.{Float, nan, inf, fin, Format, prec, emax, low, up, down, fits}
-use lib.Ieee.Fits.{reach, down_pos, and_l, and_r}
-use lib.Ieee.Exact.{HasValue}
-use lib.Ieee.Scale.{overflow, finite}
+use Rattle.std.specs.Float.{Float, nan, inf, fin, Format}
+use Rattle.std.specs.Float.Ieee.{prec, emax, low, up, down, fits}
+use Rattle.std.specs.Float.Ieee.Fits.{reach, down_pos, and_l, and_r}
+use Rattle.std.specs.Float.Ieee.Exact.{HasValue}
+use Rattle.std.specs.Float.Ieee.Scale.{overflow, finite}
+use Rattle.std.proofs.Math.Pow.{pow-lt}
 use Rattle.exact.proofs.Rational.{is, ofℤ}
 use Rattle.rounding.specs.Values.{signed}
 use Rattle.rounding.proofs.Fractions.{frac, frac_same}

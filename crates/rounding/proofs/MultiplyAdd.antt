@@ -1,7 +1,8 @@
 -- A lawful multiply-add: rounded once, or the product rounded and then the sum. Its error under bounds of the product and of the result.
 use Rattle.std.proofs.Common.{ℕ, suc, ◌^◌, ◌≤◌, T, [], ◌∷◌, sym, refl, subst}
-use lib.Ieee.{Float, Format, emax, mul}
-use lib.Ieee.Scale.{finite}
+use Rattle.std.specs.Float.{Float, Format}
+use Rattle.std.specs.Float.Ieee.{emax, mul}
+use Rattle.std.specs.Float.Ieee.Scale.{finite}
 use Rattle.exact.proofs.Ring.{◌⊕◌, ◌⊖◌, ◌⊗◌, norm}
 use Rattle.exact.proofs.Integer.{x₀, x₁, x₂, x₃, x₄}
 use Rattle.exact.proofs.Rational.{ℚ, ◌+q◌, ◌*q◌, -q◌, ◌-q◌, qring}

@@ -1,11 +1,12 @@
 -- What is nearest to a number is what `round` gives, its sign apart; infinite exactly from the limit on.
 use Rattle.std.proofs.Common.{◌≡◌, ℕ, ◌+◌, ◌-◌, ◌*◌, ◌/◌, ◌^◌, ◌<◌, ◌≤◌, Bool, true, false, cond, not, T, ◌⊎◌, ℤ, pos, ◌*ℤ◌, sym, refl, ap, ◌∙◌, subst, inl, inr, le_trans, le_of_eq, le_of_lt, zero-lt-suc, mul-one, not-le_of_lt, arith, T_not, pow_pos}
-use native.Mathlib.Nat.{eq_of_mul-eq-mul_right}
-use lib.Signed.{le_z}
-use lib.Ieee.{Float, nan, inf, fin, Format, prec, low, hid, top, size, round, fits, of_bits, to_bits}
-use lib.Ieee.Bits.{of_bits-to_bits}
-use lib.Ieee.Exact.{HasValue}
-use lib.Ieee.Scale.{grid, overflow, finite}
+use Rattle.std.specs.Int.Signed.{le_z, le_z_yes}
+use Rattle.std.specs.Float.{Float, nan, inf, fin, Format}
+use Rattle.std.specs.Float.Ieee.{prec, low, hid, top, size, round, fits, of_bits, to_bits}
+use Rattle.std.specs.Float.Ieee.Bits.{of_bits-to_bits}
+use Rattle.std.specs.Float.Ieee.Exact.{HasValue}
+use Rattle.std.specs.Float.Ieee.Scale.{grid, overflow, finite}
+use Rattle.std.proofs.Math.Nat.{eq_of_mul-eq-mul_right}
 use std.Quotient.{cls}
 use Rattle.exact.specs.Fraction.{Fraction, absolute, ◌≼◌}
 use Rattle.exact.proofs.Rational.{ℚ, is, ofℤ}
@@ -14,7 +15,6 @@ use Rattle.exact.proofs.Bound.{ofℕ}
 use Rattle.rounding.specs.Values.{value, sign, infinite}
 use Rattle.rounding.specs.Nearest.{limit, Nearest}
 use Rattle.rounding.specs.Errors.{NearestUnique, HeldUnchanged, InfiniteExactly}
-use lib.Signed.{le_z_yes}
 use Rattle.rounding.proofs.Fractions.{frac, fr, frac_le_out, sign_size}
 use Rattle.rounding.proofs.Value.{val, val_value, value_is, finite_is, Rounds}
 use Rattle.rounding.proofs.HalfUnit.{round_value}

@@ -1,18 +1,18 @@
 -- What `round` gives is the nearest value of the format, ties to even, as the definitions have it.
 use Rattle.std.proofs.Common.{◌≡◌, ℕ, ◌*◌, ◌%◌, ◌^◌, ◌<◌, ◌≤◌, Bool, true, false, not, T, ◌⊎◌, pos, sym, refl, ap, ◌∙◌, subst, ap₂, inl, inr, le_of_lt, lt_irrefl, eq-zero-or-pos, le_antisymm, mul-pos, arith, pow_pos}
-use native.Mathlib.Nat.{eq_of_mul-eq-mul_right}
-use lib.Ieee.{Float, nan, inf, fin, Format, prec, low, round, to_bits}
-use lib.Ieee.Fits.{round-fits}
-use lib.Ieee.Exact.{HasValue}
-use lib.Ieee.Scale.{grid, overflow}
+use Rattle.std.specs.Float.{Float, nan, inf, fin, Format}
+use Rattle.std.specs.Float.Ieee.{prec, low, round, to_bits}
+use Rattle.std.specs.Float.Ieee.Fits.{round-fits}
+use Rattle.std.specs.Float.Ieee.Exact.{HasValue}
+use Rattle.std.specs.Float.Ieee.Scale.{grid, overflow}
+use Rattle.std.proofs.Math.Nat.{eq_of_mul-eq-mul_right}
 use std.Quotient.{cls}
 use Rattle.exact.specs.Fraction.{Fraction, Same, whole, absolute, apart, ◌≼◌}
 use Rattle.exact.proofs.Rational.{ℚ, is, ofℤ}
 use Rattle.exact.proofs.Order.{nn, ◌≤q◌}
 use Rattle.exact.proofs.Bound.{ofℕ, nn_le, absq}
 use Rattle.rounding.specs.Values.{value, sign, infinite}
-use Rattle.rounding.specs.Nearest.{Best, limit, Nearest}
-use Rattle.rounding.specs.Nearest.{Held}
+use Rattle.rounding.specs.Nearest.{Best, limit, Nearest, Held}
 use Rattle.rounding.proofs.Fractions.{frac, nn_frac, not_above, size_out}
 use Rattle.rounding.proofs.Value.{val, val_value, value_is, finite_is, Rounds}
 use Rattle.rounding.proofs.HalfUnit.{round_value}

@@ -1,22 +1,20 @@
 -- The operations meet IEEE 754-2019: the exact result rounded once, the signs of zero, the infinities and NaN.
 use Rattle.std.proofs.Common.{◌≡◌, ℕ, suc, ◌+◌, ◌-◌, ◌*◌, ◌^◌, ◌<◌, Bool, true, false, cond, not, ◌&&◌, ◌||◌, T, eqb, ltb, [], ◌∷◌, ℤ, pos, ◌+ℤ◌, ◌*ℤ◌, sym, refl, ap, ◌∙◌, subst, ap₂, inl, inr, true≢false, eq-zero-or-pos, mul-pos, zero-mul, arith, ltb→lt, lt→ltb, pow_pos}
-use lib.Dec.{not_T}
-use lib.Ieee.{Float, nan, inf, fin, Format, prec, emax, low, up, down, unlike, odd, units, round, sum, add, mul}
-use lib.Ieee.Fits.{down_pos, round_is}
-use lib.Ieee.Bits.{cond_no, is_false}
-use lib.Ieee.Order.{drop, kept}
-use lib.Ieee.Scale.{overflow, finite}
-use borrow.Author.Differences.{ints}
+use Rattle.std.specs.Float.{Float, nan, inf, fin, Format, float_mul_add, round_to_format}
+use Rattle.std.specs.Float.Ieee.{prec, emax, low, up, down, unlike, odd, units, round, sum, add, mul, is_nan}
+use Rattle.std.specs.Float.Ieee.Fits.{down_pos, round_is}
+use Rattle.std.specs.Float.Ieee.Bits.{cond_no, is_false}
+use Rattle.std.specs.Float.Ieee.Order.{drop, kept}
+use Rattle.std.specs.Float.Ieee.Scale.{overflow, finite}
+use Rattle.std.proofs.Math.Dec.{not_T}
+use Rattle.std.proofs.lemmas.Int.{ints}
 use std.Quotient.{cls}
-use Rattle.std.specs.Float.{float_mul_add, round_to_format}
 use Rattle.exact.specs.Fraction.{Fraction, Same, whole, plus, times}
 use Rattle.exact.proofs.Ring.{con, ◌⊗◌, norm}
-use Rattle.exact.proofs.Integer.{zring, x₀}
+use Rattle.exact.proofs.Integer.{zring, x₀, mul_oneℤ}
 use Rattle.exact.proofs.Rational.{ℚ, ◌+q◌, ◌*q◌}
 use Rattle.rounding.specs.Values.{signed, value, sign, infinite, is_zero}
 use Rattle.rounding.specs.Operations.{nonzero, Rounded, Sum, RoundNearest, Products, Sums, MultiplyAdds, Conversions}
-use lib.Ieee.{is_nan}
-use Rattle.exact.proofs.Integer.{mul_oneℤ}
 use Rattle.rounding.proofs.Fractions.{signed_mul, signed_scale}
 use Rattle.rounding.proofs.Value.{val, Rounds, mul_rounds, add_rounds, fused_rounds}
 use Rattle.rounding.proofs.Multiple.{grid_zero}

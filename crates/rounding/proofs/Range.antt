@@ -1,10 +1,10 @@
 -- Into the range of a law: zero, or of magnitude 2 ^ -k to 2 ^ k.
 use Rattle.std.proofs.Common.{◌≡◌, ℕ, suc, ◌+◌, ◌-◌, ◌*◌, ◌^◌, ◌<◌, ◌≤◌, Bool, cond, ◌&&◌, T, ltb, ℤ, sym, refl, subst, inl, inr, zero-lt-suc, eq-zero-or-pos, mul-pos, arith}
-use mathlib.Core.Bool.{beq}
-use lib.Ieee.{Float, nan, inf, fin, Format, emax, up, down, unlike, round, sum, mul, fits}
-use lib.Ieee.Fits.{up_pos, down_pos, round-fits, cond-fits, add-fits}
-use lib.Ieee.Scale.{finite}
-use Rattle.std.specs.Float.{float_mul_add}
+use Rattle.std.specs.Float.{Float, nan, inf, fin, Format, float_mul_add}
+use Rattle.std.specs.Float.Ieee.{emax, up, down, unlike, round, sum, mul, fits}
+use Rattle.std.specs.Float.Ieee.Fits.{up_pos, down_pos, round-fits, cond-fits, add-fits}
+use Rattle.std.specs.Float.Ieee.Scale.{finite}
+use Rattle.std.proofs.Math.Bool.{beq}
 use Rattle.exact.proofs.Rational.{ℚ, ◌*q◌, ofℤ}
 use Rattle.exact.proofs.Order.{◌≤q◌}
 use Rattle.exact.proofs.Bound.{bound_more, ofℕ, Bound}

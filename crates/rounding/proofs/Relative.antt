@@ -1,7 +1,8 @@
 -- Errors relative to a number that is not negative, through products, chains and one rounding.
 use Rattle.std.proofs.Common.{◌≡◌, ℕ, ◌-◌, ◌*◌, ◌^◌, ◌<◌, ◌≤◌, false, T, [], ◌∷◌, sym, refl, ap, ◌∙◌, subst, zero-lt-suc, arith, pow_pos}
-use lib.Ieee.{Float, Format, prec, emax, low, round}
-use lib.Ieee.Scale.{grid, finite}
+use Rattle.std.specs.Float.{Float, Format}
+use Rattle.std.specs.Float.Ieee.{prec, emax, low, round}
+use Rattle.std.specs.Float.Ieee.Scale.{grid, finite}
 use Rattle.exact.proofs.Ring.{◌⊕◌, ◌⊖◌, ◌⊗◌, norm}
 use Rattle.exact.proofs.Integer.{x₀, x₁, x₂, x₃}
 use Rattle.exact.proofs.Rational.{ℚ, ◌+q◌, ◌*q◌, -q◌, ◌-q◌, ofℤ, qring}

@@ -1,7 +1,8 @@
 -- Roundings whose errors are told in parts of a number h between 2 ^ -160 and 2 ^ 160.
 use Rattle.std.proofs.Common.{◌^◌, T, [], ◌∷◌, refl, subst, lit≤}
-use lib.Ieee.{Float, binary64, mul}
-use lib.Ieee.Scale.{finite}
+use Rattle.std.specs.Float.{Float, binary64}
+use Rattle.std.specs.Float.Ieee.{mul}
+use Rattle.std.specs.Float.Ieee.Scale.{finite}
 use Rattle.exact.proofs.Ring.{◌⊕◌, ◌⊖◌, ◌⊗◌, ⊝, norm}
 use Rattle.exact.proofs.Integer.{x₀, x₁, x₂, x₃, x₄, x₅}
 use Rattle.exact.proofs.Rational.{ℚ, ◌+q◌, ◌*q◌, -q◌, ◌-q◌, qring}

@@ -1,29 +1,26 @@
 -- Two results of numbers that are both within e of v: equal, or neighbouring with v within e of their midpoint.
 use Rattle.std.proofs.Common.{◌≡◌, ℕ, ◌+◌, ◌*◌, ◌^◌, ◌<◌, ◌≤◌, Bool, true, false, not, T, eqb, ◌⊎◌, [], ◌∷◌, ℤ, pos, ◌+ℤ◌, ◌*ℤ◌, sym, refl, ap, ◌∙◌, subst, ap₂, inl, inr, true≢false, le_of_lt, mul-le-mul_right, zero-lt-suc, eq-zero-or-pos, mul-pos, zero-mul, arith, pow_pos}
-use native.Mathlib.Nat.{eq_of_mul-eq-mul_right}
-use lib.Dec.{not_T}
-use lib.Signed.{le_z}
-use lib.Ieee.{Float, nan, inf, fin, Format, low, up, down}
-use lib.Ieee.Fits.{up_pos}
-use lib.Ieee.Exact.{HasValue}
-use lib.Ieee.Scale.{grid, finite}
+use Rattle.std.specs.Int.Signed.{le_z}
+use Rattle.std.specs.Float.{Float, nan, inf, fin, Format}
+use Rattle.std.specs.Float.Ieee.{low, up, down}
+use Rattle.std.specs.Float.Ieee.Fits.{up_pos}
+use Rattle.std.specs.Float.Ieee.Exact.{HasValue}
+use Rattle.std.specs.Float.Ieee.Scale.{grid, finite}
+use Rattle.std.proofs.Math.Nat.{eq_of_mul-eq-mul_right}
+use Rattle.std.proofs.Math.Dec.{not_T}
 use borrow.Author.Differences.{product_is, le_T, le_in}
 use std.Quotient.{cls}
 use Rattle.exact.specs.Fraction.{Fraction, plus, apart}
-use Rattle.exact.proofs.Ring.{con, ◌⊕◌, ◌⊖◌, ◌⊗◌, ⊝, norm}
+use Rattle.exact.proofs.Ring.{con, ◌⊕◌, ◌⊖◌, ◌⊗◌, ⊝, norm, var}
 use Rattle.exact.proofs.Integer.{x₀, x₁, x₂, x₃, x₄, x₅}
-use Rattle.exact.proofs.Rational.{ℚ, ◌+q◌, ◌*q◌, -q◌, ◌-q◌, ofℤ, qring}
+use Rattle.exact.proofs.Rational.{ℚ, ◌+q◌, ◌*q◌, -q◌, ◌-q◌, ofℤ, qring, add_commq}
 use Rattle.exact.proofs.Order.{nn, nn_add, ◌≤q◌, le_by, q_refl, q_trans, q_add, q_mul, q_antisym}
-use Rattle.exact.proofs.Bound.{ofℕ, inv, Bound, absq, bound_abs, pick}
+use Rattle.exact.proofs.Bound.{ofℕ, inv, Bound, absq, bound_abs, pick, inv_mul, nn_inv}
 use Rattle.rounding.specs.Values.{signed, value, is_zero, ◌≺◌}
 use Rattle.rounding.specs.Units.{unit}
-use Rattle.rounding.specs.Nearest.{Next, Neighbouring, Best, Nearest}
+use Rattle.rounding.specs.Nearest.{Next, Neighbouring, Best, Nearest, Held}
 use Rattle.rounding.specs.Errors.{middle, Pair, equal, zeros, beside, TwoFigures}
 use borrow.Author.Differences as D
-use Rattle.exact.proofs.Ring.{var}
-use Rattle.exact.proofs.Rational.{add_commq}
-use Rattle.exact.proofs.Bound.{inv_mul, nn_inv}
-use Rattle.rounding.specs.Nearest.{Held}
 use Rattle.rounding.proofs.Gaps as Gaps
 use Rattle.rounding.proofs.Fractions.{frac, fr, frac_over, leq_in, frac_le_out, not_above, size_out}
 use Rattle.rounding.proofs.Value.{val_value, value_is}

@@ -1,15 +1,15 @@
 -- The unit of a figure: its exponent is what it is called, and in smallest values the unit is 2 ^ (digits - prec), at least one.
 use Rattle.std.proofs.Common.{◌≡◌, ℕ, zero, suc, ◌+◌, ◌-◌, ◌*◌, ◌^◌, ◌<◌, ◌≤◌, Bool, true, false, cond, not, T, leb, ℤ, pos, negsuc, ◌+ℤ◌, ◌-ℤ◌, neg_ℤ, sym, refl, ap, ◌∙◌, subst, inl, inr, le_trans, le_of_eq, mul-le-mul_right, zero-lt-suc, eq-zero-or-pos, mul-lt-mul_of_pos_right, mul-pos, zero-mul, mul-one, not-le_of_lt, le_of_mul-le-mul_right, arith, le→leb, leb→le, pow_pos, pow-add}
-use native.Mathlib.Nat.{eq_of_mul-eq-mul_right}
-use lib.Signed.{le_z}
-use lib.Ieee.{of_bits, Float, nan, inf, fin, Format, prec, low, up, down, size}
-use lib.Ieee.Digits.{size-lt, size-le, size_reaches}
-use lib.Ieee.Fits.{two, up_pos, down_pos}
-use lib.Ieee.Exact.{HasValue}
-use borrow.Author.Differences.{ints}
+use Rattle.std.specs.Int.Signed.{le_z, le_z_yes}
+use Rattle.std.specs.Float.Ieee.{of_bits, prec, low, up, down, size}
+use Rattle.std.specs.Float.{Float, nan, inf, fin, Format}
+use Rattle.std.specs.Float.Ieee.Digits.{size-lt, size-le, size_reaches}
+use Rattle.std.specs.Float.Ieee.Fits.{two, up_pos, down_pos}
+use Rattle.std.specs.Float.Ieee.Exact.{HasValue}
+use Rattle.std.proofs.Math.Nat.{eq_of_mul-eq-mul_right}
+use Rattle.std.proofs.lemmas.Int.{ints}
 use std.Quotient.{cls}
 use Rattle.rounding.specs.Units.{UnitExamples, power, larger, exponent, unit, ExponentBounds}
-use lib.Signed.{le_z_yes}
 use Rattle.rounding.proofs.Fractions.{frac, frac_same}
 use Rattle.rounding.proofs.Narrow.{unit_of, size_gt}
 use Rattle.rounding.proofs.Distance.{signed_abs}

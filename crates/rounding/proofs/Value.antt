@@ -1,12 +1,12 @@
 -- The number of a finite float as a rational, and what each operation rounds: its exact result, once.
 use Rattle.std.proofs.Common.{◌≡◌, ℕ, ◌+◌, ◌-◌, ◌*◌, ◌<◌, ◌≤◌, Bool, true, false, cond, not, ◌&&◌, T, ltb, sym, refl, ap, ◌∙◌, subst, ap₂, mul_assoc, mul_comm, mul-pos, mul_left_comm, arith, ltb→lt, nltb→le}
-use lib.Ieee.{Float, nan, inf, fin, Format, up, down, unlike, round, sum, add, mul}
-use lib.Ieee.Fits.{down_pos}
-use lib.Ieee.Exact.{HasValue}
-use lib.Ieee.Scale.{finite}
-use borrow.Author.Differences.{ints}
+use Rattle.std.specs.Float.{Float, nan, inf, fin, Format, float_mul_add, round_to_format}
+use Rattle.std.specs.Float.Ieee.{up, down, unlike, round, sum, add, mul}
+use Rattle.std.specs.Float.Ieee.Fits.{down_pos}
+use Rattle.std.specs.Float.Ieee.Exact.{HasValue}
+use Rattle.std.specs.Float.Ieee.Scale.{finite}
+use Rattle.std.proofs.lemmas.Int.{ints}
 use std.Quotient.{cls}
-use Rattle.std.specs.Float.{float_mul_add, round_to_format}
 use Rattle.exact.proofs.Rational.{ℚ, ◌+q◌, ◌*q◌}
 use Rattle.rounding.specs.Values.{value}
 use Rattle.rounding.proofs.Fractions.{frac, frac_mul, frac_over, minus_pos, minus_neg, same_num, frac_same}

@@ -1,17 +1,16 @@
 -- Rounding to a whole number, halves away from zero, is what IEEE 754-2019 says of it.
 use Rattle.std.proofs.Common.{◌≡◌, ℕ, suc, ◌+◌, ◌*◌, ◌/◌, ◌%◌, ◌<◌, ◌≤◌, Bool, false, T, ℤ, pos, ◌*ℤ◌, sym, refl, ap, ◌∙◌, subst, inl, inr, mul-le-mul_right, mod-lt, zero-lt-suc, div-add-mod', mul-one, arith}
-use lib.Ieee.{Float, nan, inf, fin, Format, up, down, fits}
-use lib.Ieee.Fits.{down_pos}
-use lib.Ieee.Exact.{HasValue}
+use Rattle.std.specs.Float.{Float, nan, inf, fin, Format, ratio_round_half_up, round_with, float_round}
+use Rattle.std.specs.Float.Ieee.{up, down, fits, is_nan}
+use Rattle.std.specs.Float.Ieee.Fits.{down_pos}
+use Rattle.std.specs.Float.Ieee.Exact.{HasValue}
 use std.Quotient.{cls}
-use Rattle.std.specs.Float.{ratio_round_half_up, round_with, float_round}
 use Rattle.exact.specs.Fraction.{integer, absolute, apart, ◌≼◌}
 use Rattle.exact.proofs.Rational.{ℚ, is}
 use Rattle.exact.proofs.Order.{◌≤q◌}
 use Rattle.exact.proofs.Bound.{absq}
 use Rattle.rounding.specs.Values.{signed, value, infinite}
 use Rattle.rounding.specs.Operations.{WholeNearest, WholeNumbers}
-use lib.Ieee.{is_nan}
 use Rattle.rounding.specs.Nearest.{Held}
 use Rattle.rounding.proofs.Fractions.{frac, frac_le, sign_size}
 use Rattle.rounding.proofs.Value.{val_value, value_is, finite_is}

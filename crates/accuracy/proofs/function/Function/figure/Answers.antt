@@ -1,5 +1,6 @@
 use Rattle.std.proofs.Common.{T, sym, ap, ◌∙◌, rules}
-use lib.Ieee.{binary32, fits}
+use Rattle.std.specs.Float.{binary32}
+use Rattle.std.specs.Float.Ieee.{fits}
 use Rattle.accuracy.specs.Functions.{curve_of}
 use Rattle.accuracy.specs.Figures.{figure}
 use Rattle.accuracy.proofs.Named.{figured}
