@@ -16,10 +16,10 @@ use Rattle.exact.specs.Exact.{exp2}
 use Rattle.exact.proofs.Rational.{ℚ, is, ◌+q◌, ◌*q◌, -q◌, ◌-q◌, ofℤ}
 use Rattle.exact.proofs.Order.{nn, ◌≤q◌, q_trans}
 use Rattle.exact.proofs.Bound.{ofℕ, Bound, bound_more}
-use Rattle.exact.proofs.Compare.{integer_cls, leq_in}
+use Rattle.exact.proofs.Compare.{integer_cls, leq_in, dy}
 use Rattle.exact.proofs.Integer.{mul_oneℤ}
 use Rattle.rounding.specs.Values.{signed, value, is_zero}
-use Rattle.rounding.proofs.Fractions.{dy, frac_same}
+use Rattle.rounding.proofs.Fractions.{frac_same}
 use Rattle.rounding.proofs.Value.{val, val_value}
 use Rattle.rounding.proofs.Multiple.{Mult, mult_whole}
 use Rattle.rounding.proofs.Cast.{cast_value}

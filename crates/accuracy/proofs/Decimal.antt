@@ -12,12 +12,12 @@ use Rattle.exact.proofs.Integer.{x₀, x₁, x₂, x₃}
 use Rattle.exact.proofs.Rational.{ℚ, is, ◌+q◌, ◌*q◌, -q◌, ◌-q◌, ofℤ, qring}
 use Rattle.exact.proofs.Order.{nn, ◌≤q◌, le_by, q_refl, q_trans, q_add, q_mul}
 use Rattle.exact.proofs.Bound.{ofℕ, nn_ofℕ, ofℕ_mono, nn_le, le_nn, Bound, bound_more, bound_via, mul_right}
-use Rattle.exact.proofs.Compare.{whole_cls, nn_dy}
+use Rattle.exact.proofs.Compare.{whole_cls, nn_dy, dy}
 use Rattle.exact.proofs.Series.{S, from}
 use Rattle.exact.proofs.Logarithm.{low, low_near_root}
 use Rattle.exact.proofs.Powers.{raised_at, pow_whole}
 use Rattle.rounding.specs.Values.{value, is_zero}
-use Rattle.rounding.proofs.Fractions.{dy, frac_le_out}
+use Rattle.rounding.proofs.Fractions.{frac_le_out}
 use Rattle.rounding.proofs.Value.{val, val_value}
 use Rattle.rounding.proofs.Distance.{abs_nn}
 use Rattle.rounding.proofs.Patterns.{sized}

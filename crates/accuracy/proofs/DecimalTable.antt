@@ -13,12 +13,11 @@ use Rattle.exact.proofs.Integer.{zring, x₀, x₁, x₂, x₃, x₄, x₅, x₆
 use Rattle.exact.proofs.Rational.{ℚ, is, ◌+q◌, ◌*q◌, -q◌, ◌-q◌, ofℤ, qring}
 use Rattle.exact.proofs.Order.{nn, ◌≤q◌, q_trans}
 use Rattle.exact.proofs.Bound.{ofℕ, inv, nn_le, le_nn, Bound, bound_more, bound_add, bound_mul, bound_neg}
-use Rattle.exact.proofs.Compare.{fr, nn_dy}
+use Rattle.exact.proofs.Compare.{fr, nn_dy, dy}
 use Rattle.exact.proofs.Series.{term, S, from}
 use Rattle.exact.proofs.Logarithm.{root, low, low_near_root}
 use Rattle.rounding.specs.Values.{value}
 use Rattle.rounding.specs.Units.{power}
-use Rattle.rounding.proofs.Fractions.{dy}
 use Rattle.rounding.proofs.Value.{val, val_value}
 use Rattle.rounding.proofs.WholeNumber.{NearWhole}
 use Rattle.arithmetic.specs.Arithmetic.{Arithmetic, Lawful}

@@ -11,7 +11,7 @@ use Rattle.exact.proofs.Bound.{ofℕ, inv, Bound, bound_more, bound_add, bound_m
 use Rattle.exact.proofs.Relative.{Rel}
 use Rattle.exact.proofs.Series.{term, S, R, from, later, tail}
 use Rattle.rounding.specs.Ranges.{Ranged}
-use Rattle.rounding.proofs.Fractions.{dy}
+use Rattle.exact.proofs.Compare.{dy}
 use Rattle.rounding.proofs.Value.{val}
 use Rattle.rounding.proofs.Horner.{Ball, ball_size}
 use Rattle.rounding.proofs.Range.{FmaLaw}

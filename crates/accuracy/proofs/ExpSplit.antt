@@ -12,10 +12,10 @@ use Rattle.exact.proofs.Integer.{zring, x₀, x₁}
 use Rattle.exact.proofs.Rational.{ℚ, is, ◌+q◌, ◌*q◌, -q◌, ◌-q◌, ofℤ, qring}
 use Rattle.exact.proofs.Order.{nn, ◌≤q◌, q_refl, q_trans, q_neg}
 use Rattle.exact.proofs.Bound.{ofℕ, Bound, bound_more, bound_add, bound_mul, bound_self, bound_neg}
-use Rattle.exact.proofs.Compare.{fr, abs_in, diff_cls}
+use Rattle.exact.proofs.Compare.{fr, abs_in, diff_cls, dy}
 use Rattle.rounding.specs.Values.{value}
 use Rattle.rounding.specs.Ranges.{Ranged, Permitted}
-use Rattle.rounding.proofs.Fractions.{dy, nn_frac}
+use Rattle.rounding.proofs.Fractions.{nn_frac}
 use Rattle.rounding.proofs.Value.{val, val_value, mul_rounds}
 use Rattle.rounding.proofs.Error.{eps, tiny, round_err}
 use Rattle.rounding.proofs.Multiple.{Mult, Away, away_more, away_above, away_below, mult_away, mult_whole}

@@ -8,7 +8,7 @@ use Rattle.exact.proofs.Rational.{ℚ, ◌+q◌, ◌*q◌}
 use Rattle.exact.proofs.Order.{◌≤q◌}
 use Rattle.exact.proofs.Bound.{ofℕ, Bound, bound_more, bound_mul}
 use Rattle.rounding.specs.Ranges.{Ranged, Permitted}
-use Rattle.rounding.proofs.Fractions.{dy}
+use Rattle.exact.proofs.Compare.{dy}
 use Rattle.rounding.proofs.Value.{val}
 use Rattle.rounding.proofs.Scaled.{above}
 use Rattle.rounding.proofs.Horner.{Ball, ball_size, Step, step}

@@ -14,9 +14,10 @@ use Rattle.exact.proofs.Order.{nn, ◌≤q◌, q_mul}
 use Rattle.exact.proofs.Bound.{ofℕ, absq, bound_abs, Bound, bound_more}
 use Rattle.rounding.specs.Values.{value}
 use Rattle.rounding.specs.Ranges.{Ranged, Permitted, once, twice}
-use Rattle.rounding.proofs.Fractions.{dy, frac_le_out, size_under}
+use Rattle.exact.proofs.Compare.{dy, product_cls, whole_cls}
+use Rattle.rounding.proofs.Fractions.{frac_le_out, size_under}
 use Rattle.rounding.proofs.Value.{val, val_value}
-use Rattle.rounding.proofs.Distance.{at_most_out, times_cls, whole_cls, apart_cls}
+use Rattle.rounding.proofs.Distance.{at_most_out, apart_cls}
 use Rattle.rounding.proofs.Range.{FmaLaw}
 use Rattle.rounding.proofs.WholeNumber.{NearWhole}
 use Rattle.arithmetic.specs.Arithmetic.{Arithmetic, Lawful, MulAdd, OneOrTwo, RoundsAway, within, small}
@@ -28,12 +29,6 @@ unfolding Std.float_is_finite
 finite_in nan h = h
 finite_in (inf s) h = h
 finite_in (fin s m e) h = tt
-
-pub finite_out : (x : Float) → T (finite x) → T (Std.float_is_finite x)
-unfolding Std.float_is_finite
-finite_out nan h = h
-finite_out (inf s) h = h
-finite_out (fin s m e) h = tt
 
 -- ---- a multiply-add on its range
 pub ranged_within : (f : Format) (n : ℕ) (x : Float) → Ranged f (suc n) x → T (within (suc n) x)
@@ -107,10 +102,7 @@ near_of f x r w =
     whole_is z = unfold ofℤ in refl
 
     far : (z : ℤ) → times (whole 2) (apart (value x) (integer z)) ≼ whole 1 → ofℕ 2 *q absq (cls (value x) -q ofℤ z) ≤q ofℕ 1
-    far z h = subst (λ (u : ℚ). u ≤q ofℕ 1) (times_cls (whole 2) (apart (value x) (integer z)) ∙ ap₂ (λ (u v : ℚ). u *q v) (whole_cls 2) (apart_cls (value x) (integer z) ∙ ap (λ (u : ℚ). absq (cls (value x) -q u)) (whole_is z))) (subst (λ (u : ℚ). cls (times (whole 2) (apart (value x) (integer z))) ≤q u) (whole_cls 1) (at_most_out (times (whole 2) (apart (value x) (integer z))) (whole 1) h))
-
-pub round_near : (a : Arithmetic) → Lawful a → (x : Float) → T (fits binary64 x) → T (finite x) → Bound (val x) (ofℕ (2 ^ 21)) → NearWhole binary64 x (a.round x)
-round_near a w x f t b = near_of binary64 x (a.round x) (w.round_law x f (small_of x t b))
+    far z h = subst (λ (u : ℚ). u ≤q ofℕ 1) (product_cls (whole 2) (apart (value x) (integer z)) ∙ ap₂ (λ (u v : ℚ). u *q v) (whole_cls 2) (apart_cls (value x) (integer z) ∙ ap (λ (u : ℚ). absq (cls (value x) -q u)) (whole_is z))) (subst (λ (u : ℚ). cls (times (whole 2) (apart (value x) (integer z))) ≤q u) (whole_cls 1) (at_most_out (times (whole 2) (apart (value x) (integer z))) (whole 1) h))
 
 pub roundf_near : (a : Arithmetic) → Lawful a → (x : Float) → T (fits binary32 x) → T (finite x) → Bound (val x) (ofℕ (2 ^ 21)) → NearWhole binary32 x (a.roundf x)
 roundf_near a w x f t b = near_of binary32 x (a.roundf x) (w.roundf_law x f (small_of x t b))

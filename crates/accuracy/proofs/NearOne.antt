@@ -21,7 +21,7 @@ use Rattle.rounding.specs.Values.{value}
 use Rattle.rounding.specs.Units.{unit}
 use Rattle.rounding.specs.Nearest.{Held}
 use Rattle.rounding.specs.Errors.{middle}
-use Rattle.rounding.proofs.Fractions.{dy}
+use Rattle.exact.proofs.Compare.{dy}
 use Rattle.rounding.proofs.Value.{val, val_value}
 use Rattle.rounding.proofs.Narrow.{unit_of}
 use Rattle.rounding.proofs.Gaps.{Value}

@@ -11,7 +11,7 @@ use Rattle.exact.proofs.Integer.{x₀, x₁, x₂, x₃, x₄, x₅}
 use Rattle.exact.proofs.Rational.{ℚ, ◌+q◌, ◌*q◌, -q◌, ◌-q◌, ofℤ, qring}
 use Rattle.exact.proofs.Order.{nn, ◌≤q◌, q_trans, q_add, q_mul}
 use Rattle.exact.proofs.Bound.{ofℕ, inv, ofℕ_mono, nn_le, le_nn, Bound, bound_more, bound_add, bound_mul, bound_neg, bound_turn, mul_right}
-use Rattle.exact.proofs.Compare.{nn_dy}
+use Rattle.exact.proofs.Compare.{nn_dy, dy}
 use Rattle.exact.proofs.Relative.{Rel}
 use Rattle.exact.proofs.Series.{S, from}
 use Rattle.exact.proofs.Shift.{shifted}
@@ -20,7 +20,6 @@ use Rattle.exact.proofs.Powers.{rest_small}
 use Rattle.exact.proofs.Table.{root_bound}
 use Rattle.rounding.specs.Values.{value}
 use Rattle.rounding.specs.Ranges.{Ranged}
-use Rattle.rounding.proofs.Fractions.{dy}
 use Rattle.rounding.proofs.Value.{val, val_value, mul_rounds}
 use Rattle.rounding.proofs.Error.{eps, tiny, round_err}
 use Rattle.rounding.proofs.MultiplyAdd.{slip, slip₂, fma_err}

@@ -13,8 +13,8 @@ use Rattle.exact.proofs.Ring.{◌⊕◌, ◌⊗◌, ⊝, norm}
 use Rattle.exact.proofs.Integer.{x₀, x₁, x₂}
 use Rattle.exact.proofs.Rational.{ℚ, is, ◌+q◌, ◌*q◌, -q◌, ◌-q◌, ofℤ, qring}
 use Rattle.exact.proofs.Order.{nn, ◌≤q◌, q_refl, q_trans, q_add, q_neg}
-use Rattle.exact.proofs.Bound.{ofℕ, absq, bound_abs, nn_le, le_nn, Bound, bound_nn, bound_more, bound_turn}
-use Rattle.exact.proofs.Compare.{product_cls, whole_cls, nn_dy}
+use Rattle.exact.proofs.Bound.{ofℕ, absq, bound_abs, nn_le, le_nn, Bound, bound_nn, bound_more, bound_turn, mul_right}
+use Rattle.exact.proofs.Compare.{product_cls, whole_cls, nn_dy, dy}
 use Rattle.exact.proofs.Claims as Claims
 use Rattle.exact.proofs.Claims.{holds}
 use Rattle.exact.proofs.Laws.{ordered}
@@ -22,8 +22,7 @@ use Rattle.rounding.specs.Values.{value, sign, is_zero}
 use Rattle.rounding.specs.Units.{unit}
 use Rattle.rounding.specs.Nearest.{limit}
 use Rattle.rounding.specs.Errors.{half, middle, nearer_zero}
-use Rattle.rounding.proofs.Fractions.{dy, frac_le_out}
-use Rattle.rounding.proofs.Relative.{mul_right}
+use Rattle.rounding.proofs.Fractions.{frac_le_out}
 use Rattle.rounding.proofs.Value.{val, val_value}
 use Rattle.rounding.proofs.Limit.{limitℕ, above_limit_relative, below_limit_relative}
 use Rattle.rounding.proofs.Distance.{abs_nn, at_most_out}

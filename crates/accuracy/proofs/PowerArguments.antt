@@ -7,7 +7,7 @@ use Rattle.std.specs.Float.Ieee.Scale.{finite}
 use Rattle.exact.proofs.Rational.{◌+q◌, -q◌, ◌-q◌}
 use Rattle.exact.proofs.Order.{nn, ◌≤q◌}
 use Rattle.exact.proofs.Bound.{bound_more}
-use Rattle.rounding.proofs.Fractions.{dy}
+use Rattle.exact.proofs.Compare.{dy}
 use Rattle.arithmetic.specs.Arithmetic.{Arithmetic, Lawful}
 use Rattle.curves.specs.Steps.{magnitude, double}
 use Rattle.curves.specs.Exp2 as Exp2

@@ -12,7 +12,7 @@ use Rattle.exact.proofs.Integer.{x₀, x₁, x₂, x₃, x₄}
 use Rattle.exact.proofs.Rational.{ℚ, is, ◌+q◌, ◌*q◌, -q◌, ◌-q◌, ofℤ, qring}
 use Rattle.exact.proofs.Order.{nn, nn_add, nn_mul, ◌≤q◌, le_by, q_trans, q_add, q_neg, q_mul}
 use Rattle.exact.proofs.Bound.{ofℕ, inv, nn_ofℕ, ofℕ_mono, nn_le, le_nn, Bound, bound_more, bound_add, bound_neg, bound_mul, bound_self, bound_turn, bound_above, bound_below, mul_right}
-use Rattle.exact.proofs.Compare.{product_cls, neg_cls, fr, nn_fr, nn_dy}
+use Rattle.exact.proofs.Compare.{product_cls, neg_cls, fr, nn_fr, nn_dy, dy}
 use Rattle.exact.proofs.Relative.{Rel}
 use Rattle.exact.proofs.Series.{S, from, later}
 use Rattle.exact.proofs.Product.{mult}
@@ -24,7 +24,6 @@ use Rattle.exact.proofs.Logarithm.{low, cut, root, low_near_root, low_nn, low_bo
 use Rattle.exact.proofs.Powers.{raise, raised_at, rest_small}
 use Rattle.rounding.specs.Values.{value}
 use Rattle.rounding.specs.Units.{unit, power}
-use Rattle.rounding.proofs.Fractions.{dy}
 use Rattle.rounding.proofs.Value.{val, val_value}
 use Rattle.rounding.proofs.Distance.{abs_nn}
 use Rattle.rounding.proofs.Figure.{held_units}

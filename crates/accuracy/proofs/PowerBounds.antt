@@ -7,10 +7,9 @@ use Rattle.exact.specs.Exponential.{within}
 use Rattle.exact.specs.Exact.{Function, exp2, exp10}
 use Rattle.exact.proofs.Rational.{ℚ, ◌*q◌, -q◌, ◌-q◌}
 use Rattle.exact.proofs.Bound.{absq, Bound}
-use Rattle.exact.proofs.Compare.{product_cls}
+use Rattle.exact.proofs.Compare.{product_cls, dy}
 use Rattle.exact.proofs.Claims.{holds}
 use Rattle.rounding.specs.Values.{value}
-use Rattle.rounding.proofs.Fractions.{dy}
 use Rattle.rounding.proofs.Value.{val, val_value}
 use Rattle.rounding.proofs.Distance.{abs_cls}
 use Rattle.curves.proofs.Law.{fma_law}

@@ -8,7 +8,8 @@ use Rattle.exact.proofs.Ring.{con, ⊝, norm}
 use Rattle.exact.proofs.Rational.{ℚ, ◌+q◌, ◌*q◌, -q◌, ◌-q◌, ofℤ, qring}
 use Rattle.exact.proofs.Order.{nn, ◌≤q◌, q_trans, q_neg}
 use Rattle.exact.proofs.Bound.{ofℕ, nn_le, Bound, bound_more}
-use Rattle.rounding.proofs.Fractions.{dy, nn_frac, frac_neg}
+use Rattle.exact.proofs.Compare.{dy}
+use Rattle.rounding.proofs.Fractions.{nn_frac, frac_neg}
 use Rattle.rounding.proofs.Value.{val}
 use Rattle.rounding.proofs.Multiple.{Away}
 use Rattle.rounding.proofs.Patterns.{sized, size_of, size_mono, sized_mono}

@@ -9,9 +9,8 @@ use Rattle.exact.proofs.Integer.{x₀, x₁, x₂, x₃, x₄, x₅, x₆, x₇}
 use Rattle.exact.proofs.Rational.{ℚ, ◌+q◌, ◌*q◌, -q◌, ◌-q◌, ofℤ, qring}
 use Rattle.exact.proofs.Order.{nn, nn_add, ◌≤q◌, le_by, q_trans, q_mul}
 use Rattle.exact.proofs.Bound.{ofℕ, nn_le, le_nn, Bound, bound_more, bound_add, bound_mul, bound_self, mul_right}
-use Rattle.exact.proofs.Compare.{nn_dy}
+use Rattle.exact.proofs.Compare.{nn_dy, dy}
 use Rattle.rounding.specs.Ranges.{Ranged, Permitted}
-use Rattle.rounding.proofs.Fractions.{dy}
 use Rattle.rounding.proofs.Value.{val, mul_rounds}
 use Rattle.rounding.proofs.Error.{eps, tiny, round_err}
 use Rattle.rounding.proofs.Horner.{ball_size, Step}

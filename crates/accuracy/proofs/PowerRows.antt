@@ -7,12 +7,12 @@ use Rattle.exact.proofs.Integer.{x₀}
 use Rattle.exact.proofs.Rational.{ℚ, ◌+q◌, ◌*q◌, -q◌, ◌-q◌, ofℤ, qring}
 use Rattle.exact.proofs.Order.{nn, ◌≤q◌, q_trans, q_mul}
 use Rattle.exact.proofs.Bound.{ofℕ, Bound, bound_more, bound_mul, bound_self, bound_turn}
-use Rattle.exact.proofs.Compare.{fr, nn_dy, nn_fr, fr_le}
+use Rattle.exact.proofs.Compare.{fr, nn_dy, nn_fr, fr_le, dy}
 use Rattle.exact.proofs.Series.{S}
 use Rattle.exact.proofs.Compute.{run, test}
 use Rattle.exact.proofs.Logarithm.{root}
 use Rattle.exact.proofs.Table.{every, power_test, power_row}
-use Rattle.rounding.proofs.Fractions.{dy, frac_same}
+use Rattle.rounding.proofs.Fractions.{frac_same}
 use Rattle.rounding.proofs.Value.{val, value_is}
 use Rattle.curves.specs.Tables.{table_exp2_mid, table_exp2f}
 use Rattle.curves.specs.Steps.{double, row}

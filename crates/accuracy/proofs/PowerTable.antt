@@ -12,7 +12,7 @@ use Rattle.exact.proofs.Integer.{zring, x₀, x₁, x₂, x₃, x₄, x₅, x₆
 use Rattle.exact.proofs.Rational.{ℚ, is, ◌+q◌, ◌*q◌, -q◌, ◌-q◌, ofℤ, qring}
 use Rattle.exact.proofs.Order.{nn, nn_mul, ◌≤q◌, le_by, q_trans, q_add, q_mul}
 use Rattle.exact.proofs.Bound.{ofℕ, inv, nn_ofℕ, ofℕ_mono, nn_le, le_nn, Bound, bound_more, bound_add, bound_mul, bound_self, bound_neg, mul_right, mul_mono}
-use Rattle.exact.proofs.Compare.{fr, nn_dy, dy_mono, leq_in}
+use Rattle.exact.proofs.Compare.{fr, nn_dy, dy_mono, leq_in, dy}
 use Rattle.exact.proofs.Relative.{Rel, rel_mul}
 use Rattle.exact.proofs.Series.{term, S, R, later, tail}
 use Rattle.exact.proofs.Product.{mult₃}
@@ -21,7 +21,6 @@ use Rattle.exact.proofs.Logarithm.{root}
 use Rattle.exact.proofs.Powers.{raise, raised, rest_small, pow_whole, pow_half}
 use Rattle.exact.proofs.Table.{root_bound}
 use Rattle.rounding.specs.Units.{power}
-use Rattle.rounding.proofs.Fractions.{dy}
 use Rattle.rounding.proofs.Value.{val}
 use Rattle.rounding.proofs.Range.{FmaLaw}
 use Rattle.curves.specs.Steps.{times_power_value}
@@ -238,9 +237,6 @@ module _ (b : Base) (E : ℚ) (small-E : E ≤q dy 1 7) (k₀ k₁ k₂ k₃ k�
       (subst (λ (u : ℚ). u ≤q dy 1 49 *q (val mh *q poly k₀ k₁ k₂ k₃ k₄ (val lo))) (qring (x₀ ⊗ (x₂ ⊗ x₁)) (x₀ ⊗ x₁ ⊗ x₂) refl (dy 1 49 ∷ dy 31 5 ∷ val mh ∷ [])) (q_mul (dy 1 49) (nn_dy 1 49) (q_mul (val mh) mh_nn pv_low))))
 
   -- ---- the three logarithms
-  abbrev pub logs : ℚ
-  logs = ofℤ h *q root binary +q r +q val lo *q root b
-
   size_h : Bound (ofℤ h *q root binary) H
   size_h = bound_mul (whole_size h hs) size_nums.11
 

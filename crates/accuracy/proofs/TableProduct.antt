@@ -62,7 +62,7 @@ halves z w n r = (
 
 -- the product of two floats in the normal range
 pub mul_rel : (x y : Float) (t : ℕ) → T (finite x) → T (finite y) → T (nn (val x *q val y)) → dy 1 1022 ≤q val x *q val y → val x *q val y ≤q ofℕ (2 ^ t) → t < 1023 → T (finite (mul binary64 x y)) × Rel (val (mul binary64 x y)) (val x *q val y) (dy 1 53)
-mul_rel x y t fx fy n lo hi h = let w = rel_round binary64 (mul binary64 x y) (val x *q val y) t (mul_rounds binary64 x y fx fy) n lo hi h in (w.0, record { off = w.1.off })
+mul_rel x y t fx fy n lo hi h = rel_round binary64 (mul binary64 x y) (val x *q val y) t (mul_rounds binary64 x y fx fy) n lo hi h
 
 -- ---- the arguments
 pub whole_size : (i : ℕ) → i < 207 → Bound (whole_arg i) (ofℕ 104)

@@ -12,10 +12,10 @@ use Rattle.exact.proofs.Integer.{x₀, x₁}
 use Rattle.exact.proofs.Rational.{ℚ, is, ◌+q◌, ◌*q◌, -q◌, ◌-q◌, ofℤ, qring}
 use Rattle.exact.proofs.Order.{nn, ◌≤q◌, q_trans}
 use Rattle.exact.proofs.Bound.{ofℕ, nn_ofℕ, absq, bound_abs, Bound, bound_more, bound_turn, bound_via, bound_above, mul_right}
-use Rattle.exact.proofs.Compare.{whole_cls}
+use Rattle.exact.proofs.Compare.{whole_cls, dy}
 use Rattle.rounding.specs.Values.{value, sign}
 use Rattle.rounding.specs.Nearest.{limit}
-use Rattle.rounding.proofs.Fractions.{dy, frac, frac_le_out}
+use Rattle.rounding.proofs.Fractions.{frac, frac_le_out}
 use Rattle.rounding.proofs.Value.{val, val_value, value_is}
 use Rattle.rounding.proofs.Narrow.{unit_of}
 use Rattle.rounding.proofs.Limit.{limitℕ}

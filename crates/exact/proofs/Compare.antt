@@ -1,5 +1,5 @@
 -- Fractions and rationals: the operations and the order of the definitions are those of the rationals; a / c as a rational, and n / 2 ^ k.
-use Rattle.std.proofs.Common.{◌≡◌, refl, sym, ap, ap₂, subst, [], ◌∷◌, ℕ, suc, ◌+◌, ◌*◌, ◌^◌, ◌≤◌, ◌<◌, mul-le-mul_right, arith, T, leb→le, le→leb, pow_pos, pow-add, pow_mono, ℤ, pos, negsuc, ◌+ℤ◌, ◌*ℤ◌, neg_ℤ, nat_abs}
+use Rattle.std.proofs.Common.{◌≡◌, refl, sym, ap, ap₂, subst, [], ◌∷◌, ℕ, suc, ◌+◌, ◌*◌, ◌^◌, ◌≤◌, ◌<◌, mul-le-mul_right, arith, T, le→leb, pow_pos, pow-add, pow_mono, ℤ, pos, negsuc, ◌+ℤ◌, ◌*ℤ◌, neg_ℤ, nat_abs}
 use Rattle.std.specs.Int.Signed.{le_z, non_neg}
 use Rattle.std.proofs.lemmas.Int.{ints}
 use borrow.Author.Differences.{le_in, le_T, product_is, sum_is_lem, neg_is, not_negative_in, not_negative_out}
@@ -135,9 +135,6 @@ fr_den z w c d C D e f = is (ap₂ (λ (x : ℤ) (k : ℕ). x *ℤ pos k) e (sym
 
 pub fr_le : (a c b d : ℕ) (C : 0 < c) (D : 0 < d) → a * d ≤ b * c → fr (pos a) c C ≤q fr (pos b) d D
 fr_le a c b d C D h = leq_in _ _ (le→leb (a * d) (b * c) h)
-
-pub fr_le_out : (a c b d : ℕ) (C : 0 < c) (D : 0 < d) → fr (pos a) c C ≤q fr (pos b) d D → a * d ≤ b * c
-fr_le_out a c b d C D h = leb→le (a * d) (b * c) (leq_out _ _ h)
 
 pub nn_fr : (a c : ℕ) (C : 0 < c) → T (nn (fr (pos a) c C))
 unfolding nn

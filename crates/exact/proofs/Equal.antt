@@ -15,9 +15,6 @@ cancel x y c p e =
     let r = product_is y (pos c) in
     same_in x y (eq_of_mul-eq-mul_right c p (up x + down y) (up y + down x) (omega (arith, h, q, r)))
 
-pub same_refl : (a : Fraction) → Same a a
-same_refl a = refl
-
 pub same_sym : (a b : Fraction) → Same a b → Same b a
 same_sym a b e = sym e
 

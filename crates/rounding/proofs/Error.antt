@@ -9,7 +9,8 @@ use Rattle.exact.proofs.Integer.{zring, x₀, x₁, x₂, x₃}
 use Rattle.exact.proofs.Rational.{ℚ, is, ◌+q◌, ◌*q◌, -q◌, ◌-q◌, ofℤ, qring}
 use Rattle.exact.proofs.Order.{nn, ◌≤q◌, q_refl, q_trans, q_add, q_mul}
 use Rattle.exact.proofs.Bound.{ofℕ, Bound, bound_more}
-use Rattle.rounding.proofs.Fractions.{frac, dy, frac_le_out, frac_near_signed, nn_frac, size_under}
+use Rattle.exact.proofs.Compare.{dy}
+use Rattle.rounding.proofs.Fractions.{frac, frac_le_out, frac_near_signed, nn_frac, size_under}
 use Rattle.rounding.proofs.Value.{val, value_is, finite_is, Rounds}
 use Rattle.rounding.proofs.HalfUnit.{Rel, grid_rel, round_value, grid_abs}
 

@@ -16,7 +16,8 @@ use Rattle.rounding.specs.Units.{unit}
 use Rattle.rounding.specs.Nearest.{limit}
 use Rattle.rounding.specs.Errors.{dyadic, half, InfiniteNear, HalfUnit, RelativeError, NearFigure, MultiplyAddError, MultiplesStay, MultiplesAway, ExactMultiplyAdd}
 use Rattle.rounding.specs.Errors as Errors
-use Rattle.rounding.proofs.Fractions.{frac, dy, fr, frac_same, frac_le, frac_le_out, size_out, sign_size}
+use Rattle.exact.proofs.Compare.{dy, fr, sum_cls, whole_cls}
+use Rattle.rounding.proofs.Fractions.{frac, frac_same, frac_le, frac_le_out, size_out, sign_size}
 use Rattle.rounding.proofs.Value.{val, val_value, value_is, Rounds, mul_rounds, add_rounds, fused_rounds}
 use Rattle.rounding.proofs.HalfUnit.{round_value}
 use Rattle.rounding.proofs.Error.{eps, tiny, round_relative}
@@ -24,7 +25,7 @@ use Rattle.rounding.proofs.Narrow.{unit_of, half_of_unit, narrow}
 use Rattle.rounding.proofs.MultiplyAdd.{slip, slip₂, fma_err}
 use Rattle.rounding.proofs.Multiple.{Mult, Away, mult_away, round_mult, round_away}
 use Rattle.rounding.proofs.Limit.{above_limit}
-use Rattle.rounding.proofs.Distance.{at_most_in, at_most_out, same_number, abs_cls, abs_frac, abs_least, within_in, within_out, plus_cls, whole_cls}
+use Rattle.rounding.proofs.Distance.{at_most_in, at_most_out, same_number, abs_cls, abs_frac, abs_least, within_in, within_out}
 use Rattle.rounding.proofs.UnitInLastPlace.{unit_is}
 use Rattle.rounding.proofs.NearestResult.{Result, nearest_result, rounded, rounded_rounds, rounded_finite, rounded_value}
 use Rattle.rounding.specs.Ranges.{Permitted, once, twice}
@@ -54,7 +55,7 @@ pub near_figure_lem : NearFigure
 unfolding norm ◌-q◌
 near_figure_lem f q v e x n t h =
     within_in (value x) v (plus (half (unit f x)) e)
-    (subst (λ (u : ℚ). Bound (cls (value x) -q cls v) u) (sym (plus_cls (half (unit f x)) e))
+    (subst (λ (u : ℚ). Bound (cls (value x) -q cls v) u) (sym (sum_cls (half (unit f x)) e))
     (subst (λ (u : ℚ). Bound u (cls (half (unit f x)) +q cls e)) (qring (x₀ ⊖ x₁ ⊕ (x₁ ⊖ x₂)) (x₀ ⊖ x₂) refl (cls (value x) ∷ cls q ∷ cls v ∷ []))
     (bound_add (within_out (value x) q (half (unit f x)) (half_unit_lem f q x n t)) (within_out q v e h))))
 
@@ -83,7 +84,7 @@ infinite_near_lem f q v e x n h = (
   λ k.
       let b = within_out q v e h in
       let L = at_most_out (plus (limit f) e) v k in
-      let up : cls (limit f) ≤q cls q = above_limit b (subst (λ (u : ℚ). u ≤q cls v) (plus_cls (limit f) e) L) in
+      let up : cls (limit f) ≤q cls q = above_limit b (subst (λ (u : ℚ). u ≤q cls v) (sum_cls (limit f) e) L) in
       let low' : cls (limit f) ≤q cls (absolute q) = q_trans up (subst (λ (u : ℚ). cls q ≤q u) (sym (abs_cls q)) (bound_abs (cls q)).hi) in
       infinite_plus x (n.overflows (at_most_in (limit f) (absolute q) low')) (n.above_zero (λ z. not_both (limit_positive f) (q_trans up (at_most_out q (whole 0) z)))),
   λ k.
@@ -91,7 +92,7 @@ infinite_near_lem f q v e x n h = (
       let b = within_out q v e h in
       k (at_most_in (limit f) (plus (absolute v) e)
       (q_trans (subst (λ (u : ℚ). cls (limit f) ≤q u) (abs_cls q) (at_most_out (limit f) (absolute q) g))
-      (subst (λ (u : ℚ). absq (cls q) ≤q u) (ap (λ (u : ℚ). u +q cls e) (sym (abs_cls v)) ∙ sym (plus_cls (absolute v) e))
+      (subst (λ (u : ℚ). absq (cls q) ≤q u) (ap (λ (u : ℚ). u +q cls e) (sym (abs_cls v)) ∙ sym (sum_cls (absolute v) e))
       (abs_least (cls q) (absq (cls v) +q cls e)
       (subst (λ (u : ℚ). Bound u (absq (cls v) +q cls e)) (qring (x₀ ⊕ (x₁ ⊖ x₀)) x₁ refl (cls v ∷ cls q ∷ [])) (bound_add (bound_abs (cls v)) b)))))))
       ).held.is_finite,
@@ -132,7 +133,7 @@ multiply_add_error_lem f x y z r P M t fx fy fz law hp hm pt mt te =
     let p : Bound (val x *q val y) (cls P) = bound_of (times (value x) (value y)) P (val x *q val y) (product_is' x y) hp in
     let m : Bound (val x *q val y +q val z) (cls M) = bound_of (plus (times (value x) (value y)) (value z)) M (val x *q val y +q val z) (all_is x y z) hm in
     let w = fma_err f x y z r (cls P) (cls M) t fx fy fz law p m (subst (λ (u : ℚ). cls P ≤q u) (whole_cls (2 ^ t)) (at_most_out P (whole (2 ^ t)) pt))
-    (subst (λ (u : ℚ). cls M +q slip f (cls P) ≤q u) (whole_cls (2 ^ t)) (subst (λ (u : ℚ). u ≤q cls (whole (2 ^ t))) (plus_cls M (slip_f f P) ∙ ap (λ (u : ℚ). cls M +q u) (sym (slip_cls f P))) (at_most_out (plus M (slip_f f P)) (whole (2 ^ t)) mt))) te in (
+    (subst (λ (u : ℚ). cls M +q slip f (cls P) ≤q u) (whole_cls (2 ^ t)) (subst (λ (u : ℚ). u ≤q cls (whole (2 ^ t))) (sum_cls M (slip_f f P) ∙ ap (λ (u : ℚ). cls M +q u) (sym (slip_cls f P))) (at_most_out (plus M (slip_f f P)) (whole (2 ^ t)) mt))) te in (
       w.is_finite,
       within_in (value r) (plus (times (value x) (value y)) (value z)) (plus (slip_f f P) (slip_f f (plus M (slip_f f P))))
           (subst (λ (u : ℚ). Bound (cls (value r) -q cls (plus (times (value x) (value y)) (value z))) u) (bound_is f P M)
@@ -149,7 +150,7 @@ multiply_add_error_lem f x y z r P M t fx fy fz law hp hm pt mt te =
     bound_of a b q e h = subst (λ (u : ℚ). Bound u (cls b)) e (bound_more (bound_abs (cls a)) (subst (λ (u : ℚ). u ≤q cls b) (abs_cls a) (at_most_out (absolute a) b h)))
 
     bound_is : (f : Format) (P M : Fraction) → slip₂ f (cls P) (cls M) ≡ cls (plus (slip_f f P) (slip_f f (plus M (slip_f f P))))
-    bound_is f P M = ap₂ (λ (a b : ℚ). a +q b) (slip_cls f P) (ap (λ (u : ℚ). slip f (cls M +q u)) (slip_cls f P) ∙ ap (slip f) (sym (plus_cls M (slip_f f P))) ∙ slip_cls f (plus M (slip_f f P))) ∙ sym (plus_cls (slip_f f P) (slip_f f (plus M (slip_f f P))))
+    bound_is f P M = ap₂ (λ (a b : ℚ). a +q b) (slip_cls f P) (ap (λ (u : ℚ). slip f (cls M +q u)) (slip_cls f P) ∙ ap (slip f) (sym (sum_cls M (slip_f f P))) ∙ slip_cls f (plus M (slip_f f P))) ∙ sym (sum_cls (slip_f f P) (slip_f f (plus M (slip_f f P))))
 
 -- ---- exact both ways
 pub exact_multiply_add_lem : ExactMultiplyAdd

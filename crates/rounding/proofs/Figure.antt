@@ -11,13 +11,13 @@ use Rattle.exact.proofs.Ring.{con, ◌⊕◌, ◌⊖◌, ◌⊗◌, ⊝, norm}
 use Rattle.exact.proofs.Integer.{zring, x₀, x₁, x₂, x₃}
 use Rattle.exact.proofs.Rational.{ℚ, is, ◌+q◌, ◌*q◌, -q◌, ◌-q◌, ofℤ, qring}
 use Rattle.exact.proofs.Order.{nn, nn_add, ◌≤q◌, le_by, q_refl, q_trans, q_add, q_mul}
-use Rattle.exact.proofs.Bound.{ofℕ, nn_le, Bound, bound_more, bound_add, bound_neg, bound_self, absq}
+use Rattle.exact.proofs.Bound.{ofℕ, nn_le, Bound, bound_more, bound_add, bound_neg, bound_self, absq, mul_right}
 use Rattle.rounding.specs.Values.{value}
 use Rattle.rounding.specs.Units.{unit}
 use Rattle.rounding.specs.Nearest.{limit, Nearest}
 use Rattle.rounding.specs.Errors.{half}
-use Rattle.rounding.proofs.Relative.{mul_right}
-use Rattle.rounding.proofs.Fractions.{frac, dy, leq_in, nn_frac}
+use Rattle.exact.proofs.Compare.{dy, leq_in}
+use Rattle.rounding.proofs.Fractions.{frac, nn_frac}
 use Rattle.rounding.proofs.Value.{val, val_value, value_is}
 use Rattle.rounding.proofs.Narrow.{unit_of}
 use Rattle.rounding.proofs.Limit.{limitℕ}

@@ -11,7 +11,7 @@ use Rattle.std.proofs.Math.Dec.{not_T}
 use Rattle.exact.proofs.Ring.{con, ◌⊕◌, ◌⊖◌, ◌⊗◌, ⊝, norm}
 use Rattle.exact.proofs.Integer.{x₀, x₁, x₂, x₃}
 use Rattle.exact.proofs.Rational.{ℚ, ◌+q◌, ◌*q◌, -q◌, ◌-q◌, ofℤ, qring}
-use Rattle.exact.proofs.Order.{nn, nn_add, nn_mul, nn_total, ◌≤q◌, le_by, q_mul}
+use Rattle.exact.proofs.Order.{nn, nn_add, nn_mul, nn_total, ◌≤q◌, le_by, q_mul, q_total}
 use Rattle.exact.proofs.Bound.{ofℕ, Bound, bound_more}
 use Rattle.rounding.proofs.Fractions.{frac, frac_le, frac_le_out}
 use Rattle.rounding.proofs.HalfUnit.{round_value}
@@ -98,22 +98,10 @@ module _ (f : Format) (s : Bool) (a c : ℕ) (C : 0 < c) where
   round_finite h = lt_of_not-le (λ (g : overflow f ≤ grid f a c). h (frac_le (limitℕ f) 1 a c (zero-lt-suc 0) C (le_trans (overflow_from f a c C g) (le_of_eq (sym (mul-one a))))))
 
 -- ---- with the number z that is rounded near v
-pub q_total : (a b : ℚ) → (a ≤q b) ⊎ (b ≤q a)
-unfolding norm ◌-q◌
-q_total a b = go (nn (b -q a)) (λ t. t) (nn_total (b -q a))
-  where
-    go : (x : Bool) → (T x → T (nn (b -q a))) → (T (not x) → T (nn (-q◌ (b -q a)))) → (a ≤q b) ⊎ (b ≤q a)
-    go true f g = inl (record { le = f tt })
-    go false f g = inr (record { le = subst (λ (x : ℚ). T (nn x)) (qring (⊝ (x₁ ⊖ x₀)) (x₀ ⊖ x₁) refl (a ∷ b ∷ [])) (g tt) })
-
 -- within e of v: e above the limit, and e below it
 pub above_limit : {z v e L : ℚ} → Bound (z -q v) e → L +q e ≤q v → L ≤q z
 unfolding norm ◌-q◌
 above_limit {z} {v} {e} {L} b h = le_by ((z -q v -q (-q◌ e)) +q (v -q (L +q e))) (nn_add _ _ b.lo.le h.le) (qring (x₀ ⊖ x₃) ((x₀ ⊖ x₁ ⊖ ⊝ x₂) ⊕ (x₁ ⊖ (x₃ ⊕ x₂))) refl (z ∷ v ∷ e ∷ L ∷ []))
-
-pub below_limit : (v : ℚ) {z e L : ℚ} → Bound (z -q v) e → L ≤q z → L ≤q v +q e
-unfolding norm ◌-q◌
-below_limit v {z} {e} {L} b h = le_by ((e -q (z -q v)) +q (z -q L)) (nn_add _ _ b.hi.le h.le) (qring (x₁ ⊕ x₂ ⊖ x₃) ((x₂ ⊖ (x₀ ⊖ x₁)) ⊕ (x₀ ⊖ x₃)) refl (z ∷ v ∷ e ∷ L ∷ []))
 
 -- within k z of v, for a k from 0 to 1
 pub above_limit_relative : {z v L : ℚ} (k : ℚ) → T (nn k) → Bound (z -q v) (k *q z) → L +q k *q L ≤q v → L ≤q z

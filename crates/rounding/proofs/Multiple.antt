@@ -13,7 +13,8 @@ use Rattle.exact.proofs.Order.{◌≤q◌, q_trans, q_neg}
 use Rattle.exact.proofs.Bound.{nn_le}
 use Rattle.rounding.specs.Values.{signed}
 use Rattle.rounding.specs.Ranges.{Permitted, once, twice}
-use Rattle.rounding.proofs.Fractions.{frac, dy, fr, frac_mul, frac_same, frac_le_out, frac_neg, nn_frac, not_above, size_out}
+use Rattle.exact.proofs.Compare.{dy, fr, fr_den}
+use Rattle.rounding.proofs.Fractions.{frac, frac_mul, frac_same, frac_le_out, frac_neg, nn_frac, not_above, size_out}
 use Rattle.rounding.proofs.Value.{val, value_is, Rounds, mul_rounds, add_rounds, fused_rounds}
 use Rattle.rounding.proofs.HalfUnit.{round_value}
 use Rattle.rounding.proofs.Best.{dist, order, closest_best}
@@ -23,9 +24,6 @@ use Rattle.rounding.proofs.Narrow.{under}
 pub record Mult (k : ℕ) (q : ℚ) : Type 0 where
   pub num : ℤ
   pub how : q ≡ fr num (2 ^ k) (pow_pos k)
-
-fr_den : (z w : ℤ) (c d : ℕ) (C : 0 < c) (D : 0 < d) → z ≡ w → c ≡ d → fr z c C ≡ fr w d D
-fr_den z w c d C D e f = is (ap₂ (λ (x : ℤ) (k : ℕ). x *ℤ pos k) e (sym f))
 
 fr_mul : (a b : ℤ) (c d : ℕ) (C : 0 < c) (D : 0 < d) → fr a c C *q fr b d D ≡ fr (a *ℤ b) (c * d) (mul-pos C D)
 unfolding ◌*q◌

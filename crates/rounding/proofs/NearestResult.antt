@@ -15,7 +15,8 @@ use Rattle.exact.proofs.Bound.{ofℕ}
 use Rattle.rounding.specs.Values.{value, sign, infinite}
 use Rattle.rounding.specs.Nearest.{limit, Nearest}
 use Rattle.rounding.specs.Errors.{NearestUnique, HeldUnchanged, InfiniteExactly}
-use Rattle.rounding.proofs.Fractions.{frac, fr, frac_le_out, sign_size}
+use Rattle.exact.proofs.Compare.{fr}
+use Rattle.rounding.proofs.Fractions.{frac, frac_le_out, sign_size}
 use Rattle.rounding.proofs.Value.{val, val_value, value_is, finite_is, Rounds}
 use Rattle.rounding.proofs.HalfUnit.{round_value}
 use Rattle.rounding.proofs.Best.{dist, grid_best}

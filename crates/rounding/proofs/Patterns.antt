@@ -97,19 +97,8 @@ module _ (p : ℕ) (h : p % 2 ^ 31 < 255 * 2 ^ 23) where
   abbrev n : ℕ
   n = size_of (p % 2 ^ 31)
 
-  pub pattern_finite : T (finite (of_bits binary32 p))
-  pattern_finite = finite_is (of_bits binary32 p) (leb (2 ^ 31) p) _ _ (pattern_value p h)
-
   pub pattern_is : val (of_bits binary32 p) ≡ frac (leb (2 ^ 31) p) n (2 ^ 149) (pow_pos 149)
   pattern_is = value_is (of_bits binary32 p) (leb (2 ^ 31) p) _ _ (pow_pos 149) (pattern_value p h)
-
-  -- at least the pattern c, which is at least 2 ^ -k
-  pub pattern_away : (k c : ℕ) → c ≤ p % 2 ^ 31 → 2 ^ 149 ≤ size_of c * 2 ^ k → Away k (val (of_bits binary32 p))
-  pattern_away k c l g = record { s = leb (2 ^ 31) p; a = n; c = 2 ^ 149; ok = pow_pos 149; how = pattern_is; far = inr (le_trans g (mul-le-mul_right (2 ^ k) (size_mono c (p % 2 ^ 31) l))) }
-
-  -- at most the pattern c, which is at most u / v
-  pub pattern_bound : (c u v : ℕ) (V : 0 < v) → p % 2 ^ 31 ≤ c → size_of c * v ≤ u * 2 ^ 149 → Bound (val (of_bits binary32 p)) (frac false u v V)
-  pattern_bound c u v V l g = subst (λ (x : ℚ). Bound x (frac false u v V)) (sym pattern_is) (signed_size (leb (2 ^ 31) p) n (2 ^ 149) (pow_pos 149) _ (frac_le n (2 ^ 149) u v (pow_pos 149) V (le_trans (mul-le-mul_right v (size_mono (p % 2 ^ 31) c l)) g)))
 
   -- a positive pattern, and one with the sign set
   pub pattern_positive : p < 2 ^ 31 → val (of_bits binary32 p) ≡ sized p

@@ -9,7 +9,8 @@ use Rattle.exact.proofs.Rational.{ℚ, ◌*q◌, ofℤ}
 use Rattle.exact.proofs.Order.{◌≤q◌}
 use Rattle.exact.proofs.Bound.{bound_more, ofℕ, Bound}
 use Rattle.rounding.specs.Ranges.{Ranged, Permitted, once, twice}
-use Rattle.rounding.proofs.Fractions.{dy, frac_le_out, size_under}
+use Rattle.exact.proofs.Compare.{dy}
+use Rattle.rounding.proofs.Fractions.{frac_le_out, size_under}
 use Rattle.rounding.proofs.Value.{val, mul_rounds}
 use Rattle.rounding.proofs.Error.{round_err}
 use Rattle.rounding.proofs.Multiple.{away_above, Away, away_at}

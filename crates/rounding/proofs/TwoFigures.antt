@@ -14,7 +14,7 @@ use Rattle.exact.specs.Fraction.{Fraction, plus, apart}
 use Rattle.exact.proofs.Ring.{con, ◌⊕◌, ◌⊖◌, ◌⊗◌, ⊝, norm, var}
 use Rattle.exact.proofs.Integer.{x₀, x₁, x₂, x₃, x₄, x₅}
 use Rattle.exact.proofs.Rational.{ℚ, ◌+q◌, ◌*q◌, -q◌, ◌-q◌, ofℤ, qring, add_commq}
-use Rattle.exact.proofs.Order.{nn, nn_add, ◌≤q◌, le_by, q_refl, q_trans, q_add, q_mul, q_antisym}
+use Rattle.exact.proofs.Order.{nn, nn_add, ◌≤q◌, le_by, q_refl, q_trans, q_add, q_mul, q_antisym, q_total}
 use Rattle.exact.proofs.Bound.{ofℕ, inv, Bound, absq, bound_abs, pick, inv_mul, nn_inv}
 use Rattle.rounding.specs.Values.{signed, value, is_zero, ◌≺◌}
 use Rattle.rounding.specs.Units.{unit}
@@ -22,11 +22,11 @@ use Rattle.rounding.specs.Nearest.{Next, Neighbouring, Best, Nearest, Held}
 use Rattle.rounding.specs.Errors.{middle, Pair, equal, zeros, beside, TwoFigures}
 use borrow.Author.Differences as D
 use Rattle.rounding.proofs.Gaps as Gaps
-use Rattle.rounding.proofs.Fractions.{frac, fr, frac_over, leq_in, frac_le_out, not_above, size_out}
+use Rattle.exact.proofs.Compare.{fr, leq_in}
+use Rattle.rounding.proofs.Fractions.{frac, frac_over, frac_le_out, not_above, size_out}
 use Rattle.rounding.proofs.Value.{val_value, value_is}
 use Rattle.rounding.proofs.Narrow.{unit_of, midpoint}
 use Rattle.rounding.proofs.Held.{digits}
-use Rattle.rounding.proofs.Limit.{q_total}
 use Rattle.rounding.proofs.Distance.{at_most_in, at_most_out, apart_cls, within_in, within_out}
 use Rattle.rounding.proofs.UnitInLastPlace.{unit_is}
 use Rattle.rounding.proofs.NearestResult.{finite_or_infinite, nearest_result, one_float}

@@ -108,9 +108,3 @@ fused_rounds f (fin s m e) (fin t n d) (fin u i g) h k l =
     (frac_same (unlike s t) (a * down g) (down e * down d * down g) a (down e * down d) P (mul-pos E F) (simp (mul_assoc, mul_comm, mul_left_comm)) ∙ sym (frac_mul s t (m * up e) (n * up d) (down e) (down d) E F))
     (frac_same u (i * up g * (down e * down d)) (down e * down d * down g) (i * up g) (down g) P H (simp (mul_assoc, mul_comm, mul_left_comm))))
     (sum_rounds f (unlike s t) (a * down g) u (i * up g * (down e * down d)) (down e * down d * down g) P)
-
-pub narrowing_rounds : (f : Format) (x : Float) → T (finite x) → Rounds f (round_to_format f x) (val x)
-unfolding round_to_format val
-narrowing_rounds f nan h = absurd h
-narrowing_rounds f (inf s) h = absurd h
-narrowing_rounds f (fin s m e) h = record { s = s; a = m * up e; c = down e; ok = down_pos e; how = refl; what = refl }
