@@ -5,12 +5,12 @@ use Rattle.std.specs.Float.Ieee.Bits.{is_true}
 use Rattle.std.proofs.lemmas.Int.{ints}
 use borrow.Author.Differences.{same_in, le_T}
 use std.Quotient.{cls}
-use Rattle.exact.specs.Fraction.{plus, times, whole, Fraction, Same, absolute, difference, apart, ◌≼◌}
+use Rattle.exact.specs.Fraction.{Fraction, Same, absolute, difference, apart, ◌≼◌}
 use Rattle.exact.proofs.Ring.{◌⊕◌, ◌⊖◌, ◌⊗◌, ⊝, norm}
 use Rattle.exact.proofs.Integer.{zring, x₀, x₁}
-use Rattle.exact.proofs.Rational.{◌*q◌, ofℤ, ℚ, ◌+q◌, -q◌, ◌-q◌, qring}
+use Rattle.exact.proofs.Rational.{ℚ, ◌+q◌, -q◌, ◌-q◌, qring}
 use Rattle.exact.proofs.Order.{nn, nn_add, ◌≤q◌, le_by, q_refl, q_neg, q_antisym}
-use Rattle.exact.proofs.Bound.{ofℕ, Bound, bound_more, bound_add, bound_neg, absq, bound_abs, pick}
+use Rattle.exact.proofs.Bound.{Bound, bound_add, bound_neg, absq, bound_abs, pick}
 use Rattle.rounding.specs.Values.{signed}
 use Rattle.exact.proofs.Compare.{fr, leq_in, leq_out, abs_out, abs_in}
 pub use Rattle.exact.proofs.Compare.{sum_cls as plus_cls}

@@ -1,13 +1,12 @@
 -- Fractions ±a / c as rationals: products, sums, order and distance, each as a fact about whole numbers, multiplied out.
-use Rattle.std.proofs.Common.{◌≡◌, ℕ, suc, ◌+◌, ◌-◌, ◌*◌, ◌^◌, ◌<◌, ◌≤◌, Bool, true, false, T, [], ◌∷◌, ℤ, pos, negsuc, ◌+ℤ◌, ◌*ℤ◌, neg_ℤ, sym, refl, ap, ◌∙◌, subst, mul-pos, arith, le→leb, leb→le, pow_pos}
-use Rattle.std.specs.Int.Signed.{non_neg, le_z}
+use Rattle.std.proofs.Common.{◌≡◌, ℕ, suc, ◌+◌, ◌-◌, ◌*◌, ◌<◌, ◌≤◌, Bool, true, false, T, [], ◌∷◌, ℤ, pos, negsuc, ◌+ℤ◌, ◌*ℤ◌, neg_ℤ, sym, refl, ap, ◌∙◌, subst, mul-pos, arith, le→leb, leb→le}
+use Rattle.std.specs.Int.Signed.{le_z}
 use Rattle.std.specs.Float.Ieee.{unlike}
 use Rattle.std.proofs.lemmas.Int.{ints}
-use borrow.Author.Differences.{sum_is_lem, neg_is, not_negative_in, not_negative_out, le_T, le_in}
+use borrow.Author.Differences.{neg_is, le_T}
 use std.Quotient.{cls}
-use Rattle.exact.specs.Fraction.{Fraction}
 use Rattle.exact.proofs.Ring.{con, ◌⊕◌, ◌⊖◌, ◌⊗◌, ⊝, norm}
-use Rattle.exact.proofs.Integer.{zring, x₀, x₁, x₂, x₃}
+use Rattle.exact.proofs.Integer.{zring, x₀, x₁, x₂}
 use Rattle.exact.proofs.Rational.{ℚ, is, ◌+q◌, ◌*q◌, -q◌, ◌-q◌, ofℤ, qring}
 use Rattle.exact.proofs.Order.{nn, ◌≤q◌, le_by, q_refl, q_trans, q_neg}
 use Rattle.exact.proofs.Bound.{nn_le, Bound, bound_more, bound_neg, bound_self}

@@ -6,7 +6,7 @@ use Rattle.std.specs.Float.Ieee.Scale.{finite}
 use Rattle.exact.proofs.Ring.{◌⊕◌, ◌⊖◌, ◌⊗◌, norm}
 use Rattle.exact.proofs.Integer.{x₀, x₁, x₂, x₃, x₄}
 use Rattle.exact.proofs.Rational.{ℚ, ◌+q◌, ◌*q◌, -q◌, ◌-q◌, qring}
-use Rattle.exact.proofs.Order.{nn, nn_add, nn_mul, ◌≤q◌, le_by, q_refl, q_trans, q_add, q_mul}
+use Rattle.exact.proofs.Order.{nn, nn_add, nn_mul, ◌≤q◌, le_by, q_refl, q_trans, q_add}
 use Rattle.exact.proofs.Bound.{ofℕ, Bound, bound_more, bound_add, bound_nn, mul_right, le_plus}
 use Rattle.rounding.specs.Ranges.{Permitted, once, twice}
 use Rattle.rounding.proofs.Value.{val, Rounds, mul_rounds, add_rounds, fused_rounds}

@@ -1,17 +1,14 @@
 -- The number of an f32 by its pattern: a larger pattern, its sign aside, is a larger number.
-use Rattle.std.proofs.Common.{◌≡◌, ℕ, zero, suc, ◌+◌, ◌*◌, ◌/◌, ◌%◌, ◌^◌, ◌<◌, ◌≤◌, Bool, false, T, eqb, leb, sym, refl, ap, ◌∙◌, subst, ap₂, inl, inr, le_trans, mul-le-mul_right, mul-le-mul, pow-suc, ne_of_lt, arith, le→leb, eqb→eq, leb→le, pow_pos, pow_mono}
+use Rattle.std.proofs.Common.{◌≡◌, ℕ, zero, suc, ◌+◌, ◌*◌, ◌/◌, ◌%◌, ◌^◌, ◌<◌, ◌≤◌, Bool, false, eqb, leb, sym, refl, ap, ◌∙◌, subst, ap₂, inl, inr, le_trans, mul-le-mul_right, mul-le-mul, pow-suc, ne_of_lt, arith, le→leb, eqb→eq, leb→le, pow_pos, pow_mono}
 use Rattle.std.specs.Float.{Float, Format, binary32}
 use Rattle.std.specs.Float.Ieee.{prec, low, hid, ones, top, of_bits, of_fields}
 use Rattle.std.specs.Float.Ieee.Bits.{cond_no, is_true, is_false}
 use Rattle.std.specs.Float.Ieee.Exact.{HasValue, odd_sign}
-use Rattle.std.specs.Float.Ieee.Scale.{finite}
 use Rattle.std.proofs.Math.Dec.{not_T}
 use Rattle.exact.proofs.Rational.{ℚ, -q◌}
-use Rattle.exact.proofs.Bound.{Bound}
-use Rattle.rounding.proofs.Fractions.{frac, frac_le, signed_size, frac_neg}
-use Rattle.rounding.proofs.Value.{val, value_is, finite_is}
+use Rattle.rounding.proofs.Fractions.{frac, frac_le, frac_neg}
+use Rattle.rounding.proofs.Value.{val, value_is}
 use Rattle.rounding.proofs.Best.{order}
-use Rattle.rounding.proofs.Multiple.{Away}
 use Rattle.exact.proofs.Order.{◌≤q◌}
 
 -- ---- an exponent's field from 1 on, and 0

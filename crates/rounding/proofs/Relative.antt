@@ -3,11 +3,11 @@ use Rattle.std.proofs.Common.{◌≡◌, ℕ, ◌-◌, ◌*◌, ◌^◌, ◌<◌
 use Rattle.std.specs.Float.{Float, Format}
 use Rattle.std.specs.Float.Ieee.{prec, emax, low, round}
 use Rattle.std.specs.Float.Ieee.Scale.{grid, finite}
-use Rattle.exact.proofs.Ring.{◌⊕◌, ◌⊖◌, ◌⊗◌, norm}
-use Rattle.exact.proofs.Integer.{x₀, x₁, x₂, x₃}
-use Rattle.exact.proofs.Rational.{ℚ, ◌+q◌, ◌*q◌, -q◌, ◌-q◌, ofℤ, qring}
-use Rattle.exact.proofs.Order.{nn, nn_mul, ◌≤q◌, le_by}
-use Rattle.exact.proofs.Bound.{ofℕ, Bound, bound_more, bound_add, bound_mul, bound_self, absq}
+use Rattle.exact.proofs.Ring.{◌⊗◌, norm}
+use Rattle.exact.proofs.Integer.{x₀, x₁}
+use Rattle.exact.proofs.Rational.{ℚ, ◌*q◌, -q◌, ◌-q◌, ofℤ, qring}
+use Rattle.exact.proofs.Order.{nn, ◌≤q◌}
+use Rattle.exact.proofs.Bound.{ofℕ, Bound, absq}
 use Rattle.exact.proofs.Relative.{Rel}
 use Rattle.rounding.proofs.Distance.{abs_frac, abs_nn}
 use Rattle.exact.proofs.Compare.{dy}

@@ -1,6 +1,6 @@
 -- The number of a finite float as a rational, and what each operation rounds: its exact result, once.
 use Rattle.std.proofs.Common.{◌≡◌, ℕ, ◌+◌, ◌-◌, ◌*◌, ◌<◌, ◌≤◌, Bool, true, false, cond, not, ◌&&◌, T, ltb, sym, refl, ap, ◌∙◌, subst, ap₂, mul_assoc, mul_comm, mul-pos, mul_left_comm, arith, ltb→lt, nltb→le}
-use Rattle.std.specs.Float.{Float, nan, inf, fin, Format, float_mul_add, round_to_format}
+use Rattle.std.specs.Float.{Float, nan, inf, fin, Format, float_mul_add}
 use Rattle.std.specs.Float.Ieee.{up, down, unlike, round, sum, add, mul}
 use Rattle.std.specs.Float.Ieee.Fits.{down_pos}
 use Rattle.std.specs.Float.Ieee.Exact.{HasValue}

@@ -2,17 +2,14 @@
 use Rattle.std.proofs.Common.{◌≡◌, ℕ, zero, suc, ◌+◌, ◌*◌, ◌/◌, ◌%◌, ◌^◌, ◌<◌, ◌≤◌, Bool, true, false, T, ℤ, pos, negsuc, sym, subst, inl, inr, mul-le-mul_right, mod-lt, zero-lt-suc, mul-le-mul_left, div-add-mod', arith, pow_pos}
 use Rattle.std.specs.Float.{Float, nan, inf, fin, Format, ratio_round_half_up, round_with, float_round}
 use Rattle.std.specs.Float.Ieee.{prec, up, down, round, fits}
-use Rattle.std.specs.Float.Ieee.Fits.{down_pos, round-fits, nan-fits, inf-fits}
+use Rattle.std.specs.Float.Ieee.Fits.{round-fits, nan-fits, inf-fits}
 use Rattle.std.specs.Float.Ieee.Exact.{HasValue, round_exact}
 use Rattle.std.specs.Float.Ieee.Scale.{finite}
 use Rattle.std.specs.Float.Ieee.Back.{round_whole}
-use Rattle.exact.proofs.Rational.{ℚ, -q◌, ◌-q◌, ofℤ}
-use Rattle.exact.proofs.Bound.{ofℕ, Bound}
-use Rattle.rounding.specs.Values.{signed}
-use Rattle.rounding.specs.Ranges.{Small}
+use Rattle.exact.proofs.Rational.{◌-q◌, -q◌, ofℤ}
+use Rattle.exact.proofs.Bound.{Bound}
 use Rattle.exact.proofs.Compare.{dy}
-use Rattle.rounding.proofs.Fractions.{frac, frac_le_out, frac_near_signed, size_under}
-use Rattle.rounding.proofs.Value.{val, value_is, finite_is}
+use Rattle.rounding.proofs.Value.{val}
 use Rattle.rounding.proofs.HalfUnit.{Half}
 use Rattle.rounding.proofs.Best.{order}
 use Rattle.rounding.proofs.Held.{fit_digits, digits}
