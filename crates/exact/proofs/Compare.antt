@@ -154,17 +154,11 @@ unfolding nn
 nn_dy n k = tt
 
 pub dy_mono : (k m : ℕ) → k ≤ m → dy 1 m ≤q dy 1 k
-dy_mono k m h = fr_le 1 (2 ^ m) 1 (2 ^ k) (pow_pos m) (pow_pos k) (go (2 ^ k) (2 ^ m) (pow_mono h))
-  where
-    go : (a b : ℕ) → a ≤ b → 1 * a ≤ 1 * b
-    go a b h = omega arith
+dy_mono k m h = fr_le 1 (2 ^ m) 1 (2 ^ k) (pow_pos m) (pow_pos k) (omega (arith, pow_mono h))
 
 pub dy_add : (a b : ℕ) → dy 1 (a + b) ≡ dy 1 a *q dy 1 b
 unfolding ◌*q◌
-dy_add a b = is (ap pos (go (2 ^ a) (2 ^ b) (2 ^ (a + b)) (pow-add 2 a b)))
-  where
-    go : (x y z : ℕ) → z ≡ x * y → 1 * (x * y) ≡ 1 * z
-    go x y z e = omega arith
+dy_add a b = is (ap pos (omega (arith, pow-add 2 a b)))
 
 -- ---- 1 / (k + 1)
 pub inv_mono : (m k : ℕ) → m ≤ k → inv k ≤q inv m

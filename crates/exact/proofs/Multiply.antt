@@ -75,13 +75,10 @@ within_nn y d t h = le_nn (squeeze 1 (ofℤ (pos 0)) (cls d) (λ i.
     one_times u = unfold ofℕ in qring x₀ (con (pos 1) ⊗ x₀) refl (u ∷ [])
 
 part_le : (i : ℕ) → inv i ≤q ofℕ 1
-part_le i = subst (λ (u : ℚ). inv i ≤q u) one (inv_mono 0 i (zero_le i))
+part_le i = subst (λ (u : ℚ). inv i ≤q u) one (inv_mono 0 i (omega arith))
   where
     one : inv 0 ≡ ofℕ 1
     one = unfold inv ofℕ ofℤ in refl
-
-    zero_le : (i : ℕ) → 0 ≤ i
-    zero_le i = omega arith
 
 gathered : (W Y Z D E i : ℚ) → W +q (Y +q Z +q D +q E +q ofℕ 1) *q i +q i ≤q W +q (Y +q Z +q D +q E +q ofℕ 2) *q i
 unfolding norm ofℕ

@@ -26,9 +26,6 @@ ofℕ_mul u v = is refl
 zero_mul : (w : ℕ) → 0 ≡ 0 * w
 zero_mul w = omega arith
 
-suc_mul : (k w : ℕ) → suc k * w ≡ k * w + w
-suc_mul k w = omega arith
-
 module _ (β : ℚ) (w : ℕ) where
   pow_low : dy 1 w ≤q β → (k : ℕ) → dy 1 (k * w) ≤q pow β k
   unfolding pow
@@ -36,12 +33,12 @@ module _ (β : ℚ) (w : ℕ) where
     where
       unit : dy 1 0 ≤q ofℕ 1
       unit = unfold nn ◌-q◌ ◌+q◌ -q◌ ofℕ ofℤ in record { le = tt }
-  pow_low h (suc k) = subst (λ (x : ℚ). x ≤q pow β k *q β) (sym (ap (λ (m : ℕ). dy 1 m) (suc_mul k w) ∙ dy_add (k * w) w)) (mul_mono (nn_dy 1 (k * w)) (nn_dy 1 w) (pow_low h k) h)
+  pow_low h (suc k) = subst (λ (x : ℚ). x ≤q pow β k *q β) (sym (ap (λ (m : ℕ). dy 1 m) (omega arith) ∙ dy_add (k * w) w)) (mul_mono (nn_dy 1 (k * w)) (nn_dy 1 w) (pow_low h k) h)
 
   pow_high : T (nn β) → β ≤q ofℕ (2 ^ w) → (k : ℕ) → pow β k ≤q ofℕ (2 ^ (k * w))
   unfolding pow
   pow_high n h zero = subst (λ (m : ℕ). ofℕ 1 ≤q ofℕ (2 ^ m)) (zero_mul w) (q_refl (ofℕ 1))
-  pow_high n h (suc k) = subst (λ (x : ℚ). pow β k *q β ≤q x) (ofℕ_mul (2 ^ (k * w)) (2 ^ w) ∙ ap ofℕ (sym (pow-add 2 (k * w) w) ∙ ap (λ (m : ℕ). 2 ^ m) (sym (suc_mul k w)))) (mul_mono (pow_nn β n k) n (pow_high n h k) h)
+  pow_high n h (suc k) = subst (λ (x : ℚ). pow β k *q β ≤q x) (ofℕ_mul (2 ^ (k * w)) (2 ^ w) ∙ ap ofℕ (sym (pow-add 2 (k * w) w) ∙ ap (λ (m : ℕ). 2 ^ m) (sym (omega arith)))) (mul_mono (pow_nn β n k) n (pow_high n h k) h)
 
 -- ---- k times the argument
 ofℕ_suc : (k : ℕ) → ofℕ (suc k) ≡ ofℕ k +q ofℕ 1
@@ -241,10 +238,7 @@ pow_half zero = unit
   where
     unit : ofℕ 1 ≡ dy 1 0
     unit = unfold ofℕ ofℤ in is refl
-pow_half (suc k) = ap₂ (λ (x y : ℚ). x *q y) (pow_half k) half ∙ sym (ap (λ (m : ℕ). dy 1 m) (add_one k) ∙ dy_add k 1)
+pow_half (suc k) = ap₂ (λ (x y : ℚ). x *q y) (pow_half k) half ∙ sym (ap (λ (m : ℕ). dy 1 m) (omega arith) ∙ dy_add k 1)
   where
     half : inv 1 ≡ dy 1 1
     half = unfold inv in is refl
-
-    add_one : (k : ℕ) → suc k ≡ k + 1
-    add_one k = omega arith

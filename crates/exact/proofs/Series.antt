@@ -64,10 +64,7 @@ from_plus a zero = omega arith
 from_plus a (suc j) = let e = from_plus a j in omega arith
 
 pub from_comm : (a b : ℕ) → from a b ≡ from b a
-from_comm a b = from_plus a b ∙ commute a b ∙ sym (from_plus b a)
-  where
-    commute : (a b : ℕ) → a + b ≡ b + a
-    commute a b = omega arith
+from_comm a b = from_plus a b ∙ omega arith ∙ sym (from_plus b a)
 
 at_from : (a n : ℕ) → a ≤ n → from a (n - a) ≡ n
 at_from a n h = from_plus a (n - a) ∙ back

@@ -92,27 +92,18 @@ few i c t n P h k m =
     omega arith
 
 doubled : (y l : ℕ) (L : 0 < l) → fr (pos (2 * y)) (2 * l) (mul-pos (zero-lt-suc 1) L) ≡ fr (pos y) l L
-doubled y l L = is (ap pos (go y l))
-  where
-    go : (y l : ℕ) → 2 * y * l ≡ y * (2 * l)
-    go y l = omega arith
+doubled y l L = is (ap pos (omega arith))
 
 halved : (u l : ℕ) (L : 0 < l) → fr (pos u) (2 * l) (mul-pos (zero-lt-suc 1) L) +q fr (pos u) (2 * l) (mul-pos (zero-lt-suc 1) L) ≡ fr (pos u) l L
 unfolding ◌+q◌
-halved u l L = is (ap pos (go u l))
-  where
-    go : (u l : ℕ) → (u * (2 * l) + u * (2 * l)) * l ≡ u * (2 * l * (2 * l))
-    go u l = omega arith
+halved u l L = is (ap pos (omega arith))
 
 part_of : (i t c P : ℕ) (C : 0 < c) (Z : 0 < P) → fr (pos (i * t)) (c * P) (mul-pos C Z) ≡ fr (pos i) c C *q fr (pos t) P Z
 unfolding ◌*q◌
 part_of i t c P C Z = refl
 
 unit_bound : (i c : ℕ) (C : 0 < c) → i ≤ c → Bound (fr (pos i) c C) (ofℕ 1)
-unit_bound i c C h = bound_more (bound_self (nn_fr i c C)) (subst (λ (x : ℚ). fr (pos i) c C ≤q x) (whole_cls 1) (fr_le i c 1 1 C (zero-lt-suc 0) (go i c h)))
-  where
-    go : (i c : ℕ) → i ≤ c → i * 1 ≤ 1 * c
-    go i c h = omega arith
+unit_bound i c C h = bound_more (bound_self (nn_fr i c C)) (subst (λ (x : ℚ). fr (pos i) c C ≤q x) (whole_cls 1) (fr_le i c 1 1 C (zero-lt-suc 0) (omega arith)))
 
 one_times : (a : ℚ) → ofℕ 1 *q a ≡ a
 unfolding norm ofℕ
@@ -150,10 +141,7 @@ module _ (b : Base) (c : ℕ) (C : 0 < c) (n l : ℕ) (L : 0 < l) (num unit : �
   unfolding power_test
   room i h =
       let x = get_or xs i 0 in
-      fr_le 1 (2 ^ 79) (unit x) (2 * l) (pow_pos 79) (mul-pos (zero-lt-suc 1) L) (go (leb→le (2 * l) (unit x * 2 ^ 79) (both_left (leb (2 * l) (unit x * 2 ^ 79)) _ (row (power_test b c n l num unit) xs all i h))))
-    where
-      go : {a b : ℕ} → a ≤ b → 1 * a ≤ b
-      go h = omega arith
+      fr_le 1 (2 ^ 79) (unit x) (2 * l) (pow_pos 79) (mul-pos (zero-lt-suc 1) L) (omega (arith, leb→le (2 * l) (unit x * 2 ^ 79) (both_left (leb (2 * l) (unit x * 2 ^ 79)) _ (row (power_test b c n l num unit) xs all i h))))
 
   -- the rule
   pub power_rule : (i : ℕ) → i < length xs → i ≤ c → OfPower b (fraction (pos i) c C) (within (fraction (pos (num (get_or xs i 0))) l L) (fraction (pos (unit (get_or xs i 0))) l L))

@@ -23,11 +23,8 @@ cast_value h (fin s m e) B lt t w b =
     let v = sized w in
     let n = v.n in
     let q : m * up e * 1 ≡ n * down e = size_out s v.s (m * up e) (down e) n 1 (down_pos e) (pow_pos 0) v.how in
-    let q' : m * up e ≡ n * down e = one_right (m * up e) (n * down e) q in
+    let q' : m * up e ≡ n * down e = omega arith in
     let d : m * up e / down e ≡ n = ap (λ (u : ℕ). u / down e) q' ∙ mul-div_cancel n (down_pos e) in
     let l : n * 1 ≤ B * 1 = frac_le_out n 1 B 1 (pow_pos 0) (zero-lt-suc 0) (size_under v.s n 1 (pow_pos 0) _ (subst (λ (u : ℚ). Bound u (ofℕ B)) v.how b)) in
     frac_same s (m * up e) (down e) n 1 (down_pos e) (zero-lt-suc 0) q
     ∙ ap (λ (z : ℤ). ofℤ z) (sym (ap (λ (u : ℕ). cond s (neg_ℤ (pos (min u (2 ^ h)))) (pos (min u (2 ^ h - 1)))) d ∙ cast_signed h s n (omega arith)))
-  where
-    one_right : (x y : ℕ) → x * 1 ≡ y → x ≡ y
-    one_right x y e = omega arith

@@ -68,14 +68,11 @@ relative_error_lem f q x n t h =
     let c = q.den in
     let S : cls (absolute q) ≡ frac false a c q.ok = abs_cls q ∙ ap absq r.what ∙ abs_frac r.s a c q.ok in
     let k : 1 * c ≤ a * 2 ^ (emax f - 1) = frac_le_out 1 (2 ^ (emax f - 1)) a c (pow_pos (emax f - 1)) q.ok (subst (λ (u : ℚ). dy 1 (emax f - 1) ≤q u) S (at_most_out (dyadic 1 (emax f - 1)) (absolute q) h)) in
-    let b = round_relative f r.s a c q.ok r.under (le_trans (le_of_eq (one c)) k) in
+    let b = round_relative f r.s a c q.ok r.under (le_trans (le_of_eq (omega arith)) k) in
     within_in (value x) q (times (absolute q) (dyadic 1 (prec f)))
     (subst (λ (u : ℚ). Bound (u -q cls q) (cls (times (absolute q) (dyadic 1 (prec f))))) (value_is (round f r.s a c) r.s (grid f a c) (2 ^ low f) (pow_pos (low f)) (round_value f r.s a c r.under) ∙ sym r.is_value ∙ val_value x)
     (subst (λ (u : ℚ). Bound (val (round f r.s a c) -q u) (cls (times (absolute q) (dyadic 1 (prec f))))) (sym r.what)
     (subst (λ (u : ℚ). Bound (val (round f r.s a c) -q frac r.s a c q.ok) (u *q dy 1 (prec f))) (sym S) b)))
-  where
-    one : (c : ℕ) → c ≡ 1 * c
-    one c = omega arith
 
 -- ---- overflow of what is near v
 pub infinite_near_lem : InfiniteNear
@@ -86,7 +83,7 @@ infinite_near_lem f q v e x n h = (
       let L = at_most_out (plus (limit f) e) v k in
       let up : cls (limit f) ≤q cls q = above_limit b (subst (λ (u : ℚ). u ≤q cls v) (sum_cls (limit f) e) L) in
       let low' : cls (limit f) ≤q cls (absolute q) = q_trans up (subst (λ (u : ℚ). cls q ≤q u) (sym (abs_cls q)) (bound_abs (cls q)).hi) in
-      infinite_plus x (n.overflows (at_most_in (limit f) (absolute q) low')) (n.above_zero (λ z. not_both (limit_positive f) (q_trans up (at_most_out q (whole 0) z)))),
+      infinite_plus x (n.overflows (at_most_in (limit f) (absolute q) low')) (n.above_zero (λ z. (omega (arith, limit_positive f, q_trans up (at_most_out q (whole 0) z))))),
   λ k.
       (n.otherwise (λ g.
       let b = within_out q v e h in
@@ -101,9 +98,6 @@ infinite_near_lem f q v e x n h = (
     limit_positive : (f : Format) → cls (limit f) ≤q cls (whole 0) → ⊥
     limit_positive binary32 h = (at_most_in (limit binary32) (whole 0) h).le
     limit_positive binary64 h = (at_most_in (limit binary64) (whole 0) h).le
-
-    not_both : {A : Type 0} → (A → ⊥) → A → ⊥
-    not_both f a = f a
 
     infinite_plus : (x : Float) → T (infinite x) → T (not (sign x)) → x ≡ inf false
     infinite_plus nan t u = absurd t
@@ -197,11 +191,8 @@ zero_cls s a c C e = ap (λ (n : ℕ). frac s n c C) e ∙ go s
 away_out : (k : ℕ) (q : Fraction) (u : ℚ) → cls q ≡ u → Away k u → Errors.Away k q
 away_out k q u e w = elim w.far [
   | inl z ↦ inl (same_number q (whole 0) (e ∙ w.how ∙ zero_cls w.s w.a w.c w.ok z))
-  | inr h ↦ inr (at_most_in (dyadic 1 k) (absolute q) (subst (λ (v : ℚ). dy 1 k ≤q v) (sym (abs_cls q ∙ ap absq (e ∙ w.how) ∙ abs_frac w.s w.a w.c w.ok)) (frac_le 1 (2 ^ k) w.a w.c (pow_pos k) w.ok (le_trans (le_of_eq (one w.c)) h))))
+  | inr h ↦ inr (at_most_in (dyadic 1 k) (absolute q) (subst (λ (v : ℚ). dy 1 k ≤q v) (sym (abs_cls q ∙ ap absq (e ∙ w.how) ∙ abs_frac w.s w.a w.c w.ok)) (frac_le 1 (2 ^ k) w.a w.c (pow_pos k) w.ok (le_trans (le_of_eq (omega arith)) h))))
 ]
-  where
-    one : (c : ℕ) → 1 * c ≡ c
-    one c = omega arith
 
 away_in : (k : ℕ) (q : Fraction) (u : ℚ) → cls q ≡ u → Errors.Away k q → Away k u
 away_in k q u e w =
@@ -214,16 +205,10 @@ away_in k q u e w =
       ok = q.ok;
       how = sym e ∙ what;
       far = elim w [
-        | inl h ↦ inl (none z.n q.den (size_out z.s false z.n q.den 0 1 q.ok (zero-lt-suc 0) (sym what ∙ is h)))
-        | inr h ↦ inr (le_trans (le_of_eq (one q.den)) (frac_le_out 1 (2 ^ k) z.n q.den (pow_pos k) q.ok (subst (λ (v : ℚ). dy 1 k ≤q v) (abs_cls q ∙ ap absq what ∙ abs_frac z.s z.n q.den q.ok) (at_most_out (dyadic 1 k) (absolute q) h))))
+        | inl h ↦ inl (omega (arith, size_out z.s false z.n q.den 0 1 q.ok (zero-lt-suc 0) (sym what ∙ is h)))
+        | inr h ↦ inr (le_trans (le_of_eq (omega arith)) (frac_le_out 1 (2 ^ k) z.n q.den (pow_pos k) q.ok (subst (λ (v : ℚ). dy 1 k ≤q v) (abs_cls q ∙ ap absq what ∙ abs_frac z.s z.n q.den q.ok) (at_most_out (dyadic 1 k) (absolute q) h))))
       ];
     }
-  where
-    one : (c : ℕ) → c ≡ 1 * c
-    one c = omega arith
-
-    none : (n d : ℕ) → n * 1 ≡ 0 * d → n ≡ 0
-    none n d h = omega arith
 
 pub multiples_stay_lem : MultiplesStay
 multiples_stay_lem f q x k h n t =

@@ -47,16 +47,13 @@ odd_of Ordering.lt q r t u n U c l s h d = elim (order r q) [
   ]
 ]
 odd_of Ordering.eq q r t u n U c l s h d = elim (order r q) [
-  | inl a ↦ let b : suc r * u ≤ q * u = mul-le-mul_right u a in absurd (far (q % 2) (digit q) h b)
+  | inl a ↦ let b : suc r * u ≤ q * u = mul-le-mul_right u a in absurd (far (q % 2) (omega arith) h b)
   | inr a ↦ elim (order (suc q) r) [
-    | inl a' ↦ let b : suc (suc q) * u ≤ r * u = mul-le-mul_right u a' in absurd (far' (q % 2) (digit q) h b)
-    | inr a' ↦ pick r q a a' d
+    | inl a' ↦ let b : suc (suc q) * u ≤ r * u = mul-le-mul_right u a' in absurd (far' (q % 2) (omega arith) h b)
+    | inr a' ↦ omega arith
   ]
 ]
   where
-    digit : (q : ℕ) → q % 2 < 2
-    digit q = omega arith
-
     far : (w : ℕ) → w < 2 → dist (r * u) n ≤ dist ((q + w) * u) n → suc r * u ≤ q * u → ⊥
     far zero l' h b = omega arith
     far (suc zero) l' h b = omega arith
@@ -67,11 +64,6 @@ odd_of Ordering.eq q r t u n U c l s h d = elim (order r q) [
     far' (suc zero) l' h b = omega arith
     far' (suc (suc w)) l' h b = absurd (omega arith)
 
-    pick : (r q : ℕ) → q ≤ r → r ≤ suc q → (r ≡ q + q % 2 → ⊥) → r % 2 ≡ 1
-    pick r q a b d = elim (eq-zero-or-pos (r % 2)) [
-      | inl z ↦ absurd (d (omega arith))
-      | inr p ↦ (omega arith)
-    ]
 odd_of Ordering.gt q r t u n U c l s h d = elim (order r (suc q)) [
   | inl a ↦ let a' : r ≤ q = omega arith in let b : r * u ≤ q * u = mul-le-mul_right u a' in absurd (omega arith)
   | inr a ↦ elim (order (suc q) r) [
@@ -82,9 +74,6 @@ odd_of Ordering.gt q r t u n U c l s h d = elim (order r (suc q)) [
 
 closest_odd : (n u r : ℕ) → 0 < u → dist (r * u) n ≤ dist (closest n u * u) n → (r ≡ closest n u → ⊥) → r % 2 ≡ 1
 closest_odd n u r U = odd_of (compare (n % u * 2) u) (n / u) r (n % u) u n U (cmp (n % u * 2) u) (mod-lt n U) (div-add-mod' n u)
-
-not_both : (x : ℕ) → x % 2 ≡ 0 → x % 2 ≡ 1 → ⊥
-not_both x p r = omega arith
 
 -- ---- and so for every value q * 2 ^ j of the format
 module _ (f : Format) (a c q j : ℕ) (C : 0 < c) (few : q ≤ 2 ^ prec f) (near : dist (q * 2 ^ j * c) (a * 2 ^ low f) ≤ dist (grid f a c * c) (a * 2 ^ low f)) (other : q * 2 ^ j ≡ grid f a c → ⊥) where
@@ -118,7 +107,7 @@ module _ (f : Format) (a c q j : ℕ) (C : 0 < c) (few : q ≤ 2 ^ prec f) (near
         let s' : b * c ≤ n = subst (λ (z : ℕ). z * c ≤ n) (mul_comm (2 ^ k) (2 ^ (prec f - 1))) s in
         let w : q * 2 ^ j ≤ b = le_trans (mul-le-mul_right (2 ^ j) few) (le_trans (le_of_eq (sym (pow-add 2 (prec f) j))) (le_trans (pow_mono (omega arith)) (le_of_eq (pow-add 2 (prec f - 1) k)))) in
         let w' : q * 2 ^ j * c ≤ b * c = mul-le-mul_right c w in
-        absurd (not_both (2 ^ (prec f - 1)) power_even (multiple (2 ^ (prec f - 1)) (omega arith) (λ e. other (le_antisymm (subst (λ (z : ℕ). q * 2 ^ j ≤ z) e w) (le_of_mul-le-mul_right (back (q * 2 ^ j * c) (b * c) (grid f a c * c) n w' s' (ap (λ (z : ℕ). z * c) e) near) C)))).1)
+        absurd (omega (arith, power_even, (multiple (2 ^ (prec f - 1)) (omega arith) (λ e. other (le_antisymm (subst (λ (z : ℕ). q * 2 ^ j ≤ z) e w) (le_of_mul-le-mul_right (back (q * 2 ^ j * c) (b * c) (grid f a c * c) n w' s' (ap (λ (z : ℕ). z * c) e) near) C)))).1))
     | inr g ↦
         let e : q * 2 ^ (j - k) * 2 ^ k ≡ q * 2 ^ j = mul_assoc q (2 ^ (j - k)) (2 ^ k) ∙ ap (λ (x : ℕ). q * x) (sym (pow-add 2 (j - k) k) ∙ ap (λ (x : ℕ). 2 ^ x) {x = j - k + k} {y = j} (omega arith)) in
         let b = multiple (q * 2 ^ (j - k)) (subst (λ (z : ℕ). dist (z * c) n ≤ dist (grid f a c * c) n) (sym e) near) (λ d. other (sym e ∙ d)) in
@@ -131,10 +120,7 @@ module _ (f : Format) (a c q j : ℕ) (C : 0 < c) (few : q ≤ 2 ^ prec f) (near
 
       no_zeros : (i : ℕ) → q * 2 ^ i % 2 ≡ 1 → i ≡ 0
       no_zeros zero h = refl
-      no_zeros (suc i) h = absurd (bad (q * 2 ^ i) (sym (ap (λ (x : ℕ). q * x % 2) (pow-suc 2 i) ∙ ap (λ (x : ℕ). x % 2) (sym (mul_assoc q (2 ^ i) 2))) ∙ h))
-        where
-          bad : (x : ℕ) → x * 2 % 2 ≡ 1 → ⊥
-          bad x h = omega arith
+      no_zeros (suc i) h = absurd (omega (arith, sym (ap (λ (x : ℕ). q * x % 2) (pow-suc 2 i) ∙ ap (λ (x : ℕ). x % 2) (sym (mul_assoc q (2 ^ i) 2))) ∙ h))
 
       back : (x b g n : ℕ) → x ≤ b → b ≤ n → b ≡ g → dist x n ≤ dist g n → g ≤ x
       back x b g n h i e d = omega arith
@@ -149,20 +135,14 @@ module _ (f : Format) (a c q j : ℕ) (C : 0 < c) (few : q ≤ 2 ^ prec f) (near
         let P : 0 < prec f = two-le_pos (prec f) (two f) in
         let u = c * 2 ^ k in
         let s₀ : 2 ^ k * 2 ^ (prec f - 1) * c ≤ n = unit_small f a c C (omega arith) in
-        let s : 2 ^ (prec f - 1) * u ≤ n = le_trans (le_of_eq (turn (2 ^ (prec f - 1)) c (2 ^ k))) s₀ in
+        let s : 2 ^ (prec f - 1) * u ≤ n = le_trans (le_of_eq (omega arith)) s₀ in
         let b : dist (kept (prec f) n c * u) n ≤ dist (2 ^ (prec f - 1) * u) n = closest_best n u (2 ^ (prec f - 1)) (mul-pos C (pow_pos k)) in
         let i : suc q * u ≤ 2 ^ (prec f - 1) * u = mul-le-mul_right u l in
         let w : dist (q * u) n ≤ dist (kept (prec f) n c * u) n = subst (λ (z : ℕ). dist z n ≤ dist (kept (prec f) n c * u) n) (sym (regroup q) ∙ refl) (subst (λ (z : ℕ). dist (q * 2 ^ k * c) n ≤ dist z n) (sym (regroup (kept (prec f) n c))) (subst (λ (z : ℕ). dist (q * 2 ^ z * c) n ≤ dist (grid f a c * c) n) tie_digits.2 near)) in
-        absurd (far (q * u) (2 ^ (prec f - 1) * u) (kept (prec f) n c * u) n u (mul-pos C (pow_pos k)) (le_trans (le_of_eq (more q u)) i) s b w)
+        absurd (far (q * u) (2 ^ (prec f - 1) * u) (kept (prec f) n c * u) n u (mul-pos C (pow_pos k)) (le_trans (le_of_eq (omega arith)) i) s b w)
     | inr g ↦ g
   ]
     where
-      turn : (b c d : ℕ) → b * (c * d) ≡ d * b * c
-      turn b c d = omega arith
-
-      more : (q u : ℕ) → q * u + u ≡ suc q * u
-      more q u = omega arith
-
       far : (x b g n u : ℕ) → 0 < u → x + u ≤ b → b ≤ n → dist g n ≤ dist b n → dist x n ≤ dist g n → ⊥
       far x b g n u U h i j k = omega arith
 
@@ -171,7 +151,7 @@ module _ (f : Format) (a c q j : ℕ) (C : 0 < c) (few : q ≤ 2 ^ prec f) (near
       ap (λ (z : ℕ). q * 2 ^ j / 2 ^ z % 2) size_is ∙ ap (λ (z : ℕ). q * 2 ^ z / 2 ^ k % 2) tie_digits.2 ∙ ap (λ (z : ℕ). z % 2) (mul-div_cancel q (pow_pos k)) ∙ tie_digits.1
     where
       under : q < 2 ^ prec f
-      under = lt_of_le-ne few (λ e. not_both q (ap (λ (z : ℕ). z % 2) e ∙ even_power) tie_digits.1)
+      under = lt_of_le-ne few (λ e. (omega (arith, ap (λ (z : ℕ). z % 2) e ∙ even_power, tie_digits.1)))
         where
           even_power : 2 ^ prec f % 2 ≡ 0
           even_power = ap (λ (z : ℕ). z % 2) (ap (λ (z : ℕ). 2 ^ z) {x = prec f} {y = prec f - 1 + 1} (let h = two f in omega arith) ∙ pow-add 2 (prec f - 1) 1) ∙ mul-mod_left (2 ^ (prec f - 1)) 2
@@ -179,19 +159,10 @@ module _ (f : Format) (a c q j : ℕ) (C : 0 < c) (few : q ≤ 2 ^ prec f) (near
       size_is : size (q * 2 ^ j) - prec f ≡ k
       size_is =
           let h : size (q * 2 ^ j) ≤ prec f + k = subst (λ (z : ℕ). size (q * 2 ^ z) ≤ prec f + k) (sym tie_digits.2) (size-le (q * 2 ^ k) (prec f + k) (subst (λ (z : ℕ). q * 2 ^ k < z) (sym (pow-add 2 (prec f) k)) (mul-lt-mul_of_pos_right under (pow_pos k)))) in
-          le_antisymm (cut (size (q * 2 ^ j)) (prec f) k h) (elim (eq-zero-or-pos k) [
-            | inl z ↦ subst (λ (y : ℕ). y ≤ size (q * 2 ^ j) - prec f) (sym z) (least (size (q * 2 ^ j) - prec f))
-            | inr K ↦ keep (size (q * 2 ^ j)) (prec f) k (two f) (subst (λ (z : ℕ). prec f - 1 + k < size (q * 2 ^ z)) (sym tie_digits.2) (size_gt (q * 2 ^ k) (prec f - 1 + k) (le_trans (le_of_eq (pow-add 2 (prec f - 1) k)) (mul-le-mul_right (2 ^ k) (reached K)))))
+          le_antisymm (omega arith) (elim (eq-zero-or-pos k) [
+            | inl z ↦ subst (λ (y : ℕ). y ≤ size (q * 2 ^ j) - prec f) (sym z) (omega arith)
+            | inr K ↦ (omega (arith, two f, subst (λ (z : ℕ). prec f - 1 + k < size (q * 2 ^ z)) (sym tie_digits.2) (size_gt (q * 2 ^ k) (prec f - 1 + k) (le_trans (le_of_eq (pow-add 2 (prec f - 1) k)) (mul-le-mul_right (2 ^ k) (reached K))))))
           ])
-        where
-          cut : (z p k : ℕ) → z ≤ p + k → z - p ≤ k
-          cut z p k h = omega arith
-
-          least : (x : ℕ) → 0 ≤ x
-          least x = omega arith
-
-          keep : (z p k : ℕ) → 2 ≤ p → p - 1 + k < z → k ≤ z - p
-          keep z p k t h = omega arith
 
 -- ---- an even number kept is an even significand of the result
 pow_le : (i j : ℕ) → 2 ^ i ≤ 2 ^ j → i ≤ j
@@ -208,7 +179,7 @@ even_digits f a c C e = elim (order (kept p n c) (2 ^ p)) [
       let s = size_gt g (p + k) (le_of_eq (sym G)) in
       let t = size-le g (suc (p + k)) (subst (λ (x : ℕ). x < 2 ^ suc (p + k)) (sym G) (pow-lt (le_refl (suc (p + k))))) in
       let z : size g - p ≡ suc k = omega arith in
-      let q : p + k ≡ p - 2 + 1 + suc k = shift p k (two f) in
+      let q : p + k ≡ p - 2 + 1 + suc k = omega (arith, two f) in
       let d : g ≡ 2 ^ (p - 2) * 2 * 2 ^ suc k = G ∙ ap (λ (x : ℕ). 2 ^ x) q ∙ pow-add 2 (p - 2 + 1) (suc k) ∙ ap (λ (x : ℕ). x * 2 ^ suc k) (pow-add 2 (p - 2) 1) in
       ap (λ (x : ℕ). g / 2 ^ x % 2) z ∙ ap (λ (x : ℕ). x / 2 ^ suc k % 2) d ∙ ap (λ (x : ℕ). x % 2) (mul-div_cancel (2 ^ (p - 2) * 2) (pow_pos (suc k))) ∙ mul-mod_left (2 ^ (p - 2)) 2
 ]
@@ -227,9 +198,6 @@ even_digits f a c C e = elim (order (kept p n c) (2 ^ p)) [
 
     small : size g ≤ p + k → size g - p ≤ k
     small h = omega arith
-
-    shift : (p k : ℕ) → 2 ≤ p → p + k ≡ p - 2 + 1 + suc k
-    shift p k h = omega arith
 
 pattern_odd : (f : Format) (t : Bool) (z x : ℕ) → x % 2 ≡ 1 → (cond t (top f) 0 + z * hid f + x) % 2 ≡ 1
 pattern_odd binary32 false z x h = omega arith

@@ -71,17 +71,11 @@ unit_under f g v h = step (whole_units f g v)
     step : Times g (unit_of f g) → unit_of f g ≤ g
     step t = elim (eq-zero-or-pos t.by) [
       | inl z ↦ absurd (lt_irrefl 0 (subst (λ (x : ℕ). 0 < x) (t.is_times ∙ ap (λ (x : ℕ). x * unit_of f g) z ∙ zero-mul (unit_of f g)) h))
-      | inr p ↦ le_trans (le_of_eq (one (unit_of f g))) (le_trans (mul-le-mul_right (unit_of f g) p) (le_of_eq (sym t.is_times)))
+      | inr p ↦ le_trans (le_of_eq (omega arith)) (le_trans (mul-le-mul_right (unit_of f g) p) (le_of_eq (sym t.is_times)))
     ]
-      where
-        one : (u : ℕ) → u ≡ 1 * u
-        one u = omega arith
 
 pub unit_mono : (f : Format) (g h : ℕ) → g ≤ h → unit_of f g ≤ unit_of f h
-unit_mono f g h l = pow_mono (fewer (size g) (size h) (prec f) (size-le g (size h) (lt_of_le_of_lt l (size-lt h))))
-  where
-    fewer : (x y p : ℕ) → x ≤ y → x - p ≤ y - p
-    fewer x y p h = omega arith
+unit_mono f g h l = pow_mono (omega (arith, size-le g (size h) (lt_of_le_of_lt l (size-lt h))))
 
 -- two values with one between are two units of the lower apart
 pub two_units : (f : Format) (g h k : ℕ) → Value f g → Value f h → Value f k → g < h → h < k → g + (unit_of f g + unit_of f g) ≤ k

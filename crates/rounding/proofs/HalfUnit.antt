@@ -54,15 +54,11 @@ grid_half f a c h =
     let x = closest_half (a * 2 ^ low f) (c * 2 ^ k) (mul-pos h (pow_pos k)) in
     subst (λ (z : ℕ). Half (q * 2 ^ k * c) z (a * 2 ^ low f)) (mul_comm c (2 ^ k)) (subst (λ (z : ℕ). Half z (c * 2 ^ k) (a * 2 ^ low f)) e x)
 
--- in the normal range the unit is at most 2 ^ (1 - prec) of the number
-pred_lt : (z p : ℕ) → 0 < p → p ≤ z → z - p + (p - 1) < z
-pred_lt z p P h = omega arith
-
 pub unit_small : (f : Format) (a c : ℕ) → 0 < c → prec f ≤ size (a * 2 ^ low f / c) → unit_at f a c * 2 ^ (prec f - 1) * c ≤ a * 2 ^ low f
 unit_small f a c C h =
     let z = size (a * 2 ^ low f / c) in
     le_trans (le_of_eq (ap (λ (x : ℕ). x * c) (sym (pow-add 2 (z - prec f) (prec f - 1)))))
-    ((le-div_iff_mul-le C).0 (size_reaches (a * 2 ^ low f / c) (z - prec f + (prec f - 1)) (pred_lt z (prec f) (two-le_pos (prec f) (two f)) h)))
+    ((le-div_iff_mul-le C).0 (size_reaches (a * 2 ^ low f / c) (z - prec f + (prec f - 1)) (omega (arith, two-le_pos (prec f) (two f)))))
 
 -- |g c - n| 2 ^ prec ≤ n
 abbrev pub Rel : ℕ → ℕ → ℕ → Type 0

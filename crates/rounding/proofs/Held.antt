@@ -44,25 +44,17 @@ fit_top f s m e t =
 pub digits : (f : Format) (x : Float) → T (finite x) → T (fits f x) → Digits f x
 digits f nan t w = absurd t
 digits f (inf s) t w = absurd t
-digits f (fin s zero e) t w = record { s = s; q = 0; j = 0; few = pow_pos (prec f); under = pow_pos (low f + suc (emax f)); how = (refl, nil (up e) (2 ^ low f) (down e)) }
-  where
-    nil : (u l d : ℕ) → 0 * u * l ≡ 0 * 2 ^ 0 * d
-    nil u l d = omega arith
+digits f (fin s zero e) t w = record { s = s; q = 0; j = 0; few = pow_pos (prec f); under = pow_pos (low f + suc (emax f)); how = (refl, omega arith) }
 digits f (fin s (suc m) (pos k)) t w = record {
   s = s;
   q = suc m;
   j = k + low f;
   few = (fit_digits f s m (pos k) w).0;
   under = subst (λ (z : ℕ). z < overflow f) (mul_assoc (suc m) (2 ^ k) (2 ^ low f) ∙ ap (λ (z : ℕ). suc m * z) (sym (pow-add 2 k (low f))))
-      (lt_of_lt_of_le (mul-lt-mul_of_pos_right (fit_top f s m (pos k) w) (pow_pos (low f))) (le_of_eq (one_right (2 ^ suc (emax f)) (2 ^ low f) ∙ sym (pow-add 2 (low f) (suc (emax f))))));
-  how = (refl, mul_assoc (suc m) (2 ^ k) (2 ^ low f) ∙ ap (λ (z : ℕ). suc m * z) (sym (pow-add 2 k (low f))) ∙ times_one (suc m * 2 ^ (k + low f)));
+      (lt_of_lt_of_le (mul-lt-mul_of_pos_right (fit_top f s m (pos k) w) (pow_pos (low f))) (le_of_eq ((omega arith) ∙ sym (pow-add 2 (low f) (suc (emax f))))));
+  how = (refl, mul_assoc (suc m) (2 ^ k) (2 ^ low f) ∙ ap (λ (z : ℕ). suc m * z) (sym (pow-add 2 k (low f))) ∙ omega arith);
 }
-  where
-    one_right : (a b : ℕ) → a * 1 * b ≡ b * a
-    one_right a b = omega arith
 
-    times_one : (a : ℕ) → a ≡ a * 1
-    times_one a = omega arith
 digits f (fin s (suc m) (negsuc k)) t w = record {
   s = s;
   q = suc m;
@@ -79,7 +71,7 @@ digits f (fin s (suc m) (negsuc k)) t w = record {
     le_split : 2 ^ suc k ≤ 2 ^ low f → low f ≡ low f - suc k + suc k
     le_split h = elim (order (low f) (suc k)) [
       | inl l ↦ absurd (clash (lt_of_lt_of_le (pow-lt l) h))
-      | inr g ↦ (omega arith)
+      | inr g ↦ omega arith
     ]
       where
         clash : 2 ^ low f < 2 ^ low f → ⊥
@@ -89,10 +81,7 @@ pow_under : (i j : ℕ) → 2 ^ i < 2 ^ j → i < j
 pow_under i j h = lt_of_not-le (λ (g : j ≤ i). not-le_of_lt h (pow_mono g))
 
 nought : (k : ℕ) (s : Bool) (u c : ℕ) (C : 0 < c) → Mult k (frac s (0 * u) c C)
-nought k s u c C = record { num = signed s 0; how = frac_same s (0 * u) c 0 (2 ^ k) C (pow_pos k) (nil u (2 ^ k) c) }
-  where
-    nil : (u k c : ℕ) → 0 * u * k ≡ 0 * c
-    nil u k c = omega arith
+nought k s u c C = record { num = signed s 0; how = frac_same s (0 * u) c 0 (2 ^ k) C (pow_pos k) (omega arith) }
 
 -- a value of the format that is 0 or at least 2 ^ -a is a multiple of 2 ^ -(prec - 1 + a): 23 + a in f32
 pub coarse : (f : Format) (a : ℕ) (x : Float) → T (finite x) → T (fits f x) → Away a (val x) → Mult (prec f - 1 + a) (val x)

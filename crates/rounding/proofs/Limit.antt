@@ -45,13 +45,10 @@ overflow_from f a c C h =
     let P = 2 ^ prec f in
     let U = 2 ^ last f in
     let L = 2 ^ low f * 2 in
-    let k : grid f a c * c + (P - 1) * U * c ≤ a * 2 ^ low f * 2 = over f a c (P - 1) (last f) C (pred P) (lt_of_lt_of_le (largest_under f) h) in
+    let k : grid f a c * c + (P - 1) * U * c ≤ a * 2 ^ low f * 2 = over f a c (P - 1) (last f) C (omega arith) (lt_of_lt_of_le (largest_under f) h) in
     let m : limitℕ f * L * c ≤ a * 2 ^ low f * 2 = go (grid f a c) c (a * 2 ^ low f * 2) P U (limitℕ f * L) (pow_pos (prec f)) (subst (λ (z : ℕ). z ≤ grid f a c) (overflow_is f) h) k (limit_is f) in
     le_of_mul-le-mul_right (le_trans (le_of_eq (mul_right_comm (limitℕ f) c L)) (le_trans m (le_of_eq (mul_assoc a (2 ^ low f) 2)))) (mul_pos2 (2 ^ low f) (pow_pos (low f)))
   where
-    pred : (P : ℕ) → P - 1 ≤ P
-    pred P = omega arith
-
     go : (g c n P U M : ℕ) → 0 < P → P * U ≤ g → g * c + (P - 1) * U * c ≤ n → M ≡ (2 * P - 1) * U → M * c ≤ n
     go g c n zero U M p h k e = absurd (omega arith)
     go g c n (suc P) U M p h k e =

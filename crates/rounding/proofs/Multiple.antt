@@ -140,22 +140,13 @@ away_mul {j} {k} {p} {q} v w = record {
   ok = mul-pos v.ok w.ok;
   how = ap₂ (λ (x y : ℚ). x *q y) v.how w.how ∙ frac_mul v.s w.s v.a w.a v.c w.c v.ok w.ok;
   far = elim v.far [
-    | inl z ↦ inl (ap (λ (u : ℕ). u * w.a) z ∙ none_l w.a)
+    | inl z ↦ inl (ap (λ (u : ℕ). u * w.a) z ∙ omega arith)
     | inr h ↦ elim w.far [
-      | inl z ↦ inl (ap (λ (u : ℕ). v.a * u) z ∙ none_r v.a)
-      | inr l ↦ inr (le_trans (mul-le-mul h l) (le_of_eq (regroup v.a w.a (2 ^ j) (2 ^ k) ∙ ap (λ (u : ℕ). v.a * w.a * u) (sym (pow-add 2 j k)))))
+      | inl z ↦ inl (ap (λ (u : ℕ). v.a * u) z ∙ omega arith)
+      | inr l ↦ inr (le_trans (mul-le-mul h l) (le_of_eq ((omega arith) ∙ ap (λ (u : ℕ). v.a * w.a * u) (sym (pow-add 2 j k)))))
     ]
   ];
 }
-  where
-    none_l : (x : ℕ) → 0 * x ≡ 0
-    none_l x = omega arith
-
-    none_r : (x : ℕ) → x * 0 ≡ 0
-    none_r x = omega arith
-
-    regroup : (a b x y : ℕ) → a * x * (b * y) ≡ a * b * (x * y)
-    regroup a b x y = simp (mul_assoc, mul_left_comm)
 
 -- ---- a rounding: where the result is finite, the units it is counted in
 units_under : (f : Format) (s : Bool) (q k : ℕ) → T (finite (units f s q k)) → q * 2 ^ k < overflow f
@@ -208,15 +199,12 @@ grid_times f a c N t C e = elim (order t d) [
 pub grid_zero : (f : Format) (a c : ℕ) → 0 < c → a ≡ 0 → grid f a c ≡ 0
 grid_zero f a c C e =
     let d = drop (prec f) (a * 2 ^ low f) c in
-    let n : a * 2 ^ low f ≡ 0 = ap (λ (u : ℕ). u * 2 ^ low f) e ∙ nil (2 ^ low f) in
+    let n : a * 2 ^ low f ≡ 0 = ap (λ (u : ℕ). u * 2 ^ low f) e ∙ omega arith in
     let b = closest_best (a * 2 ^ low f) (c * 2 ^ d) 0 (mul-pos C (pow_pos d)) in
     let z : kept (prec f) (a * 2 ^ low f) c * (c * 2 ^ d) ≡ 0 = flat _ (a * 2 ^ low f) (c * 2 ^ d) b n in
     let s : grid f a c * c ≡ kept (prec f) (a * 2 ^ low f) c * (c * 2 ^ d) = simp (mul_assoc, mul_comm, mul_left_comm) in
-    eq_of_mul-eq-mul_right c C (grid f a c) 0 (s ∙ z ∙ sym (nil c))
+    eq_of_mul-eq-mul_right c C (grid f a c) 0 (s ∙ z ∙ sym (omega arith))
   where
-    nil : (x : ℕ) → 0 * x ≡ 0
-    nil x = omega arith
-
     flat : (x y u : ℕ) → dist x y ≤ dist (0 * u) y → y ≡ 0 → x ≡ 0
     flat x y u h k = omega arith
 
@@ -264,11 +252,8 @@ round_away f x q k h r t w = record {
       | inr g ↦ g
     ]
       where
-        one : (x : ℕ) → 1 * x ≡ x
-        one x = omega arith
-
         under1 : grid f r.a r.c < 2 ^ (low f - k) → r.a * 2 ^ low f * 2 ≤ grid f r.a r.c * r.c + 2 ^ (low f - k) * r.c
-        under1 s = subst (λ (u : ℕ). r.a * 2 ^ low f * 2 ≤ grid f r.a r.c * r.c + u * r.c) (one (2 ^ (low f - k))) (under f r.a r.c 1 (low f - k) r.ok (pow_pos (prec f)) (subst (λ (u : ℕ). grid f r.a r.c < u) (sym (one (2 ^ (low f - k)))) s))
+        under1 s = subst (λ (u : ℕ). r.a * 2 ^ low f * 2 ≤ grid f r.a r.c * r.c + u * r.c) (omega arith) (under f r.a r.c 1 (low f - k) r.ok (pow_pos (prec f)) (subst (λ (u : ℕ). grid f r.a r.c < u) (sym (omega arith)) s))
 
         clash : (a c g t k : ℕ) → 0 < c → c ≤ a * k → g < t → a * (t * k) * 2 ≤ g * c + t * c → ⊥
         clash a c g t k C l s u =
@@ -281,31 +266,19 @@ pub away_above : (k : ℕ) (x : Float) → T (finite x) → dy 1 k ≤q val x �
 unfolding val ofℤ
 away_above k nan t h = absurd t
 away_above k (inf s) t h = absurd t
-away_above k (fin false m e) t h = record { s = false; a = m * up e; c = down e; ok = down_pos e; how = refl; far = inr (go (down e) (m * up e * 2 ^ k) (frac_le_out 1 (2 ^ k) (m * up e) (down e) (pow_pos k) (down_pos e) h)) }
-  where
-    go : (c y : ℕ) → 1 * c ≤ y → c ≤ y
-    go c y l = omega arith
-away_above k (fin true m e) t h = absurd (no (2 ^ k) (frac_le_out 1 (2 ^ k) 0 1 (pow_pos k) (zero-lt-suc 0) (q_trans h (not_above (m * up e) (down e) (down_pos e) (frac false 0 1 (zero-lt-suc 0)) (nn_frac 0 1 (zero-lt-suc 0))))))
-  where
-    no : (K : ℕ) → 1 * 1 ≤ 0 * K → ⊥
-    no K l = absurd (omega arith)
+away_above k (fin false m e) t h = record { s = false; a = m * up e; c = down e; ok = down_pos e; how = refl; far = inr (omega (arith, frac_le_out 1 (2 ^ k) (m * up e) (down e) (pow_pos k) (down_pos e) h)) }
+away_above k (fin true m e) t h = absurd (omega (arith, frac_le_out 1 (2 ^ k) 0 1 (pow_pos k) (zero-lt-suc 0) (q_trans h (not_above (m * up e) (down e) (down_pos e) (frac false 0 1 (zero-lt-suc 0)) (nn_frac 0 1 (zero-lt-suc 0))))))
 
 pub away_below : (k : ℕ) (x : Float) → T (finite x) → val x ≤q -q◌ (dy 1 k) → Away k (val x)
 unfolding val ofℤ
 away_below k nan t h = absurd t
 away_below k (inf s) t h = absurd t
-away_below k (fin true m e) t h = record { s = true; a = m * up e; c = down e; ok = down_pos e; how = refl; far = inr (go (down e) (m * up e * 2 ^ k) (frac_le_out 1 (2 ^ k) (m * up e) (down e) (pow_pos k) (down_pos e) (turn (m * up e) (down e) (down_pos e) h))) }
+away_below k (fin true m e) t h = record { s = true; a = m * up e; c = down e; ok = down_pos e; how = refl; far = inr (omega (arith, frac_le_out 1 (2 ^ k) (m * up e) (down e) (pow_pos k) (down_pos e) (turn (m * up e) (down e) (down_pos e) h))) }
   where
-    go : (c y : ℕ) → 1 * c ≤ y → c ≤ y
-    go c y l = omega arith
-
     turn : (a c : ℕ) (C : 0 < c) → frac true a c C ≤q -q◌ (dy 1 k) → dy 1 k ≤q frac false a c C
     turn a c C h = unfold norm in subst (λ (u : ℚ). dy 1 k ≤q u) (qring (⊝ (⊝ x₀)) x₀ refl (frac false a c C ∷ [])) (subst (λ (u : ℚ). u ≤q -q◌ (-q◌ (frac false a c C))) (qring (⊝ (⊝ x₀)) x₀ refl (dy 1 k ∷ [])) (q_neg (subst (λ (u : ℚ). u ≤q -q◌ (dy 1 k)) (sym (frac_neg a c C)) h)))
-away_below k (fin false m e) t h = absurd (no (2 ^ k) (frac_le_out 1 (2 ^ k) 0 1 (pow_pos k) (zero-lt-suc 0) (under_zero (q_trans (nn_le (nn_frac (m * up e) (down e) (down_pos e))) h))))
+away_below k (fin false m e) t h = absurd (omega (arith, frac_le_out 1 (2 ^ k) 0 1 (pow_pos k) (zero-lt-suc 0) (under_zero (q_trans (nn_le (nn_frac (m * up e) (down e) (down_pos e))) h))))
   where
-    no : (K : ℕ) → 1 * 1 ≤ 0 * K → ⊥
-    no K l = absurd (omega arith)
-
     under_zero : ofℤ (pos 0) ≤q -q◌ (dy 1 k) → dy 1 k ≤q frac false 0 1 (zero-lt-suc 0)
     under_zero g = unfold norm in subst (λ (u : ℚ). u ≤q ofℤ (pos 0)) (qring (⊝ (⊝ x₀)) x₀ refl (dy 1 k ∷ [])) (subst (λ (u : ℚ). -q◌ (-q◌ (dy 1 k)) ≤q u) (qring (⊝ (con (pos 0))) (con (pos 0)) refl []) (q_neg g))
 

@@ -152,10 +152,7 @@ module _ (f : Format) (s : Bool) (a c : ℕ) (C : 0 < c) (o : grid f a c < overf
       differ n' e' = n' (sym (eq_of_mul-eq-mul_right (2 ^ low f) L g (h w b.held) (size_out s (d w b.held).s g (2 ^ low f) (h w b.held) (2 ^ low f) L L (sym cls_x ∙ is e' ∙ cls_w w b.held))))
 
       odd_clash : (h w b.held ≡ g → ⊥) → ⊥
-      odd_clash n' = not_both (to_bits f w) (b.even x round_best.held (nothing_nearer w b.held) (differ n')) (other_is_odd w b.held near_w n')
-        where
-          not_both : (x : ℕ) → x % 2 ≡ 0 → x % 2 ≡ 1 → ⊥
-          not_both x p r = omega arith
+      odd_clash n' = omega (arith, b.even x round_best.held (nothing_nearer w b.held) (differ n'), other_is_odd w b.held near_w n')
 
 -- ---- `round` gives the nearest value, ties to even
 module _ (f : Format) (s : Bool) (a c : ℕ) (C : 0 < c) (q : Fraction) (e : ◌≡◌ {A = ℚ} (cls q) (frac s a c C)) where

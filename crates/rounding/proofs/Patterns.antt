@@ -38,23 +38,14 @@ weigh_high zero t h = omega arith
 weigh_high (suc x) t h = subst (λ (u : ℕ). (2 ^ 23 + t) * 2 ^ x ≤ 2 ^ 23 * u) (sym (pow-suc 2 x)) (go t (2 ^ x) h)
   where
     go : (t u : ℕ) → t < 2 ^ 23 → (2 ^ 23 + t) * u ≤ 2 ^ 23 * (u * 2)
-    go t u h = let k : (2 ^ 23 + t) * u ≤ 2 ^ 24 * u = mul-le-mul_right u (more t h) in omega arith
-      where
-        more : (t : ℕ) → t < 2 ^ 23 → 2 ^ 23 + t ≤ 2 ^ 24
-        more t h = omega arith
+    go t u h = let k : (2 ^ 23 + t) * u ≤ 2 ^ 24 * u = mul-le-mul_right u (omega arith) in omega arith
 
 weigh_low : (e x t : ℕ) → e ≤ x → 2 ^ 23 * 2 ^ e ≤ weigh (suc x) t
-weigh_low e x t h = mul-le-mul (more t) (pow_mono h)
-  where
-    more : (t : ℕ) → 2 ^ 23 ≤ 2 ^ 23 + t
-    more t = omega arith
+weigh_low e x t h = mul-le-mul (omega arith) (pow_mono h)
 
 weigh_same : (e t u : ℕ) → t ≤ u → weigh e t ≤ weigh e u
 weigh_same zero t u h = omega arith
-weigh_same (suc x) t u h = mul-le-mul_right (2 ^ x) (more t u h)
-  where
-    more : (t u : ℕ) → t ≤ u → 2 ^ 23 + t ≤ 2 ^ 23 + u
-    more t u h = omega arith
+weigh_same (suc x) t u h = mul-le-mul_right (2 ^ x) (omega arith)
 
 weigh_mono : (e t f u : ℕ) → t < 2 ^ 23 → e * 2 ^ 23 + t ≤ f * 2 ^ 23 + u → u < 2 ^ 23 → weigh e t ≤ weigh f u
 weigh_mono e t zero u l h k =
@@ -99,13 +90,10 @@ module _ (p : ℕ) (h : p % 2 ^ 31 < 255 * 2 ^ 23) where
 
   -- a positive pattern, and one with the sign set
   pub pattern_positive : p < 2 ^ 31 → val (of_bits binary32 p) ≡ sized p
-  pattern_positive l = pattern_is ∙ ap₂ (λ (s : Bool) (b : ℕ). frac s (size_of b) (2 ^ 149) (pow_pos 149)) (is_false (leb (2 ^ 31) p) (not_T (leb (2 ^ 31) p) (λ t. clash (leb→le (2 ^ 31) p t) l))) (keep p l)
+  pattern_positive l = pattern_is ∙ ap₂ (λ (s : Bool) (b : ℕ). frac s (size_of b) (2 ^ 149) (pow_pos 149)) (is_false (leb (2 ^ 31) p) (not_T (leb (2 ^ 31) p) (λ t. clash (leb→le (2 ^ 31) p t) l))) (omega arith)
     where
       clash : 2 ^ 31 ≤ p → p < 2 ^ 31 → ⊥
       clash a b = omega arith
-
-      keep : (p : ℕ) → p < 2 ^ 31 → p % 2 ^ 31 ≡ p
-      keep p l = omega arith
 
   pub pattern_negative : 2 ^ 31 ≤ p → val (of_bits binary32 p) ≡ -q◌ (sized (p % 2 ^ 31))
   pattern_negative l = pattern_is ∙ ap (λ (s : Bool). frac s n (2 ^ 149) (pow_pos 149)) (is_true (leb (2 ^ 31) p) (le→leb (2 ^ 31) p l)) ∙ sym (frac_neg n (2 ^ 149) (pow_pos 149))
