@@ -117,11 +117,8 @@ whole_out (fin s m e) t =
     let l : negsuc 148 ≤ℤ z = le_z_yes (and_l (le_z (negsuc 148) z) (le_z z (pos 127)) lh) in
     let h : z ≤ℤ pos 127 = le_z_yes (and_r (le_z (negsuc 148) z) (le_z z (pos 127)) lh) in
     let r = in_range s K l h in
-    (frac_same s (m * up e) (down e) K 1 (down_pos e) (zero-lt-suc 0) (exact (m * up e) (down e) K (div-add-mod (m * up e) (down e)) w) ∙ ap (λ (u : ℤ). cls (integer u)) (same_sign s K ∙ sym r.1), l, h)
+    (frac_same s (m * up e) (down e) K 1 (down_pos e) (zero-lt-suc 0) (omega (arith, div-add-mod (m * up e) (down e))) ∙ ap (λ (u : ℤ). cls (integer u)) (same_sign s K ∙ sym r.1), l, h)
   where
-    exact : (a d k : ℕ) → d * k + a % d ≡ a → a % d ≡ 0 → a * 1 ≡ k * d
-    exact a d k e z = omega arith
-
     same_sign : (s : Bool) (n : ℕ) → signed s n ≡ cond s (neg_ℤ (pos n)) (pos n)
     same_sign false n = refl
     same_sign true n = refl

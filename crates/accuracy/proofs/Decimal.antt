@@ -166,16 +166,10 @@ module _ (x : Float) (w : T (fits binary32 x)) (t : T (finite x)) (n : ℕ) (h :
       let nz : T (nn (val z)) = le_nn (q_trans (nn_le (nn_dy 1 162)) b.above) in
       let k = table_is_near a v x w r in
       let m = k.start 0 + 1000 in
-      let s : Bound (sum exp10 (value x) 0 m -q ofℕ (10 ^ n)) (dy 1 74 *q ofℕ (10 ^ n)) = at_whole m (right_le (k.start 0) 1000) in
-      let q : Bound (val z -q sum exp10 (value x) 0 m) (dy 1 43 *q val z) = subst (λ (u : ℚ). Bound (val z -q sum exp10 (value x) 0 m) (dy 1 43 *q u)) (abs_nn (val z) nz) (k.off 0 m (left_le (k.start 0) 1000)) in
+      let s : Bound (sum exp10 (value x) 0 m -q ofℕ (10 ^ n)) (dy 1 74 *q ofℕ (10 ^ n)) = at_whole m (omega arith) in
+      let q : Bound (val z -q sum exp10 (value x) 0 m) (dy 1 43 *q val z) = subst (λ (u : ℚ). Bound (val z -q sum exp10 (value x) 0 m) (dy 1 43 *q u)) (abs_nn (val z) nz) (k.off 0 m (omega arith)) in
       ten_figure n h z k.is_finite (below_limit exp10 (value x) z nz b.near (table_under x w t r)) (plus_sign z 162 k.is_finite b.above) (near_whole (val z) (sum exp10 (value x) 0 m) (ofℕ (10 ^ n)) nz (nn_ofℕ (10 ^ n)) q s)
     where
-      left_le : (a b : ℕ) → a ≤ a + b
-      left_le a b = omega arith
-
-      right_le : (a b : ℕ) → b ≤ a + b
-      right_le a b = omega arith
-
       at_whole : (m : ℕ) → 1000 ≤ m → Bound (sum exp10 (value x) 0 m -q ofℕ (10 ^ n)) (dy 1 74 *q ofℕ (10 ^ n))
       at_whole m l =
           let d = raised_at decimal (pos n) (le_trans h (lit≤ tt)) (low decimal (from 80 0)) (low_near_root decimal 0) m l in
@@ -214,11 +208,8 @@ exp10_exact a v x w n h t e = exact_at x w t n h (val_value x ∙ is e ∙ whole
 -- ---- special values
 zero_number : (s : Bool) (m : ℕ) (e : ℤ) → m ≡ 0 → pattern (fin s m e) ≡ cond s 2147483648 0
 unfolding size
-zero_number s m e z = pattern_is s m e 0 (ap (λ (n : ℕ). n * up e * 2 ^ 149) z ∙ nil (up e) (down e)) ∙ go s
+zero_number s m e z = pattern_is s m e 0 (ap (λ (n : ℕ). n * up e * 2 ^ 149) z ∙ omega arith) ∙ go s
   where
-    nil : (u d : ℕ) → 0 * u * 2 ^ 149 ≡ 0 * d
-    nil u d = omega arith
-
     go : (s : Bool) → cond s 2147483648 0 + pattern_of 0 ≡ cond s 2147483648 0
     go false = refl
     go true = refl

@@ -47,21 +47,15 @@ signed_of x w t =
     let l : p < 2 ^ 32 = to_bits-lt binary32 x w in
     let m : magnitude x ≡ p % 2 ^ 31 = and_mask p 31 in
     elim (eq-zero-or-pos (p / 2 ^ 31)) [
-      | inl z ↦ positive (low p z) (m ∙ same p (low p z)) (ap val (sym e) ∙ pattern_positive p h (low p z))
-      | inr g ↦ negative (high p g) (split p l (high p g) ∙ ap (λ (n : ℕ). 2 ^ 31 + n) (sym m)) (ap val (sym e) ∙ pattern_negative p h (high p g) ∙ ap (λ (n : ℕ). -q◌ (sized n)) (sym m))
+      | inl z ↦ positive (low p z) (m ∙ (omega (arith, low p z))) (ap val (sym e) ∙ pattern_positive p h (low p z))
+      | inr g ↦ negative (high p g) ((omega (arith, high p g)) ∙ ap (λ (n : ℕ). 2 ^ 31 + n) (sym m)) (ap val (sym e) ∙ pattern_negative p h (high p g) ∙ ap (λ (n : ℕ). -q◌ (sized n)) (sym m))
     ]
   where
     low : (p : ℕ) → p / 2 ^ 31 ≡ 0 → p < 2 ^ 31
     low p z = omega arith
 
-    same : (p : ℕ) → p < 2 ^ 31 → p % 2 ^ 31 ≡ p
-    same p h = omega arith
-
     high : (p : ℕ) → 0 < p / 2 ^ 31 → 2 ^ 31 ≤ p
     high p g = omega arith
-
-    split : (p : ℕ) → p < 2 ^ 32 → 2 ^ 31 ≤ p → p ≡ 2 ^ 31 + p % 2 ^ 31
-    split p l h = omega arith
 
 -- ---- a finite f32 is no NaN, and is of the size that its pattern says
 pub numberless : (x : Float) → T (finite x) → T (not (is_nan x))
@@ -95,11 +89,8 @@ sized_size x w t = elim (signed_of x w t) [
 -- a zero of either sign
 pub zero_pattern : (s : Bool) (m : ℕ) (e : ℤ) → m ≡ 0 → magnitude (fin s m e) ≡ 0
 unfolding size
-zero_pattern s m e z = ap (λ (p : ℕ). bit_and p 0x7fff_ffff) (pattern_is s m e 0 (ap (λ (n : ℕ). n * up e * 2 ^ 149) z ∙ nil (up e) (down e))) ∙ go s
+zero_pattern s m e z = ap (λ (p : ℕ). bit_and p 0x7fff_ffff) (pattern_is s m e 0 (ap (λ (n : ℕ). n * up e * 2 ^ 149) z ∙ omega arith)) ∙ go s
   where
-    nil : (u d : ℕ) → 0 * u * 2 ^ 149 ≡ 0 * d
-    nil u d = omega arith
-
     go : (s : Bool) → bit_and (cond s 2147483648 0 + pattern_of 0) 0x7fff_ffff ≡ 0
     go false = refl
     go true = refl

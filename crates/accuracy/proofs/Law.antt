@@ -35,12 +35,9 @@ pub ranged_within : (f : Format) (n : ℕ) (x : Float) → Ranged f (suc n) x �
 ranged_within f n nan r = absurd r
 ranged_within f n (inf s) r = absurd r
 ranged_within f n (fin s m e) r = elim r.1 [
-  | inl z ↦ within_zero (suc n) s m e (ap (λ (k : ℕ). k * up e) z ∙ nil (up e))
+  | inl z ↦ within_zero (suc n) s m e (ap (λ (k : ℕ). k * up e) z ∙ omega arith)
   | inr l ↦ within_range n s m e l.0 l.1
 ]
-  where
-    nil : (u : ℕ) → 0 * u ≡ 0
-    nil u = omega arith
 
 pub ranged_fits : (f : Format) (n : ℕ) (x : Float) → Ranged f n x → T (fits f x)
 ranged_fits f n nan r = absurd r

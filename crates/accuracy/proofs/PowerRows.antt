@@ -39,13 +39,10 @@ number : (b : ℕ) → FromOne b → val (double b) ≡ fr (pos (steps b)) (2 ^ 
 number b w =
     value_is (double b) false ((2 ^ 52 + (b - 1023 * 2 ^ 52)) * 2 ^ 1022) (2 ^ 1074) (pow_pos 1074) (row_has b w)
     ∙ frac_same false ((2 ^ 52 + (b - 1023 * 2 ^ 52)) * 2 ^ 1022) (2 ^ 1074) (steps b) (2 ^ 52) (pow_pos 1074) (pow_pos 52)
-    (ap (λ (n : ℕ). n * 2 ^ 1022 * 2 ^ 52) (split b w.least) ∙ turn (steps b) (2 ^ 1022) (2 ^ 52) ∙ ap (λ (n : ℕ). steps b * n) (sym (pow-add 2 1022 52)))
+    (ap (λ (n : ℕ). n * 2 ^ 1022 * 2 ^ 52) (split b w.least) ∙ omega arith ∙ ap (λ (n : ℕ). steps b * n) (sym (pow-add 2 1022 52)))
   where
     split : (b : ℕ) → 1023 * 2 ^ 52 ≤ b → 2 ^ 52 + (b - 1023 * 2 ^ 52) ≡ b - 1022 * 2 ^ 52
     split b h = omega arith
-
-    turn : (a u v : ℕ) → a * u * v ≡ a * (u * v)
-    turn a u v = omega arith
 
 from_one : (b : ℕ) → FromOne b → (ofℕ 1 ≤q fr (pos (steps b)) (2 ^ 52) (pow_pos 52)) × (fr (pos (steps b)) (2 ^ 52) (pow_pos 52) ≤q ofℕ 2)
 unfolding ofℕ ofℤ

@@ -31,10 +31,7 @@ abbrev pub number : ℕ → ℚ
 number b = fr (pos (sig b)) (2 ^ 1075) (pow_pos 1075)
 
 pub unit_part : (b : ℕ) → ulp b * 2 ^ 52 ≤ sig b
-unit_part b = go (b % 2 ^ 52) (2 ^ (b / 2 ^ 52))
-  where
-    go : (r u : ℕ) → u * 2 ^ 52 ≤ (2 ^ 52 + r) * u
-    go r u = omega arith
+unit_part b = omega arith
 
 -- between 2 ^ -160 and 2 ^ 160: the exponent's field lies between 863 and 1183, above the sign no bit is set
 abbrev pub inside : ℕ → Bool
@@ -64,38 +61,20 @@ row_of b t =
     let f = field_of b h k in
     let e = b / 2 ^ 52 in
     let x = e - 1 in
-    let ex : e ≡ suc x = pred e f.0 in
-    let fx : b % 2 ^ 63 / 2 ^ 52 ≡ suc x = whole_field b k ∙ ex in
-    let v : HasValue (of_bits binary64 b) (leb (2 ^ 63) b) ((2 ^ 52 + b % 2 ^ 52) * 2 ^ x) (2 ^ 1074) = pattern_normal binary64 b x fx (under e x ex f.1) in
+    let ex : e ≡ suc x = omega (arith, f.0) in
+    let fx : b % 2 ^ 63 / 2 ^ 52 ≡ suc x = (omega arith) ∙ ex in
+    let v : HasValue (of_bits binary64 b) (leb (2 ^ 63) b) ((2 ^ 52 + b % 2 ^ 52) * 2 ^ x) (2 ^ 1074) = pattern_normal binary64 b x fx (omega (arith, f.1)) in
     let w : HasValue (of_bits binary64 b) false ((2 ^ 52 + b % 2 ^ 52) * 2 ^ x) (2 ^ 1074) = subst (λ (s : Bool). HasValue (of_bits binary64 b) s ((2 ^ 52 + b % 2 ^ 52) * 2 ^ x) (2 ^ 1074)) (no_sign b k) v in
     record {
       is_finite = finite_is (of_bits binary64 b) false _ _ w;
       is_fit = of_bits-fits binary64 b;
       value = value_is (of_bits binary64 b) false _ _ (pow_pos 1074) w ∙ row_number (2 ^ 52 + b % 2 ^ 52) x e ex;
-      low = low_end (2 ^ 52 + b % 2 ^ 52) (2 ^ e) (more (b % 2 ^ 52)) (pow_mono f.0);
-      high = high_end (2 ^ 52 + b % 2 ^ 52) (2 ^ e) (less (b % 2 ^ 52) (mod-lt b (pow_pos 52))) (pow_mono f.1);
+      low = low_end (2 ^ 52 + b % 2 ^ 52) (2 ^ e) (omega arith) (pow_mono f.0);
+      high = high_end (2 ^ 52 + b % 2 ^ 52) (2 ^ e) (omega (arith, mod-lt b (pow_pos 52))) (pow_mono f.1);
     }
   where
-    pred : (e : ℕ) → 864 ≤ e → e ≡ suc (e - 1)
-    pred e h = omega arith
-
-    whole_field : (b : ℕ) → b ≤ 1182 * 2 ^ 52 → b % 2 ^ 63 / 2 ^ 52 ≡ b / 2 ^ 52
-    whole_field b k = omega arith
-
-    under : (e x : ℕ) → e ≡ suc x → e ≤ 1182 → suc x < 2047
-    under e x h k = omega arith
-
     no_sign : (b : ℕ) → b ≤ 1182 * 2 ^ 52 → leb (2 ^ 63) b ≡ false
-    no_sign b k = is_false (leb (2 ^ 63) b) (not_T (leb (2 ^ 63) b) (λ t. clash b (leb→le (2 ^ 63) b t) k))
-      where
-        clash : (b : ℕ) → 2 ^ 63 ≤ b → b ≤ 1182 * 2 ^ 52 → ⊥
-        clash b h k = omega arith
-
-    more : (r : ℕ) → 2 ^ 52 ≤ 2 ^ 52 + r
-    more r = omega arith
-
-    less : (r : ℕ) → r < 2 ^ 52 → 2 ^ 52 + r ≤ 2 ^ 53
-    less r h = omega arith
+    no_sign b k = is_false (leb (2 ^ 63) b) (not_T (leb (2 ^ 63) b) (λ t. (omega (arith, leb→le (2 ^ 63) b t))))
 
     low_end : (g u : ℕ) → 2 ^ 52 ≤ g → 2 ^ 864 ≤ u → dy 1 160 ≤q fr (pos (g * u)) (2 ^ 1075) (pow_pos 1075)
     low_end g u h k = leq_in _ _ (le→leb (1 * 2 ^ 1075) (g * u * 2 ^ 160) (le_trans (lit≤ tt) (mul-le-mul_right (2 ^ 160) (mul-le-mul h k))))

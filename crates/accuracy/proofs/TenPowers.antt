@@ -59,7 +59,7 @@ one_value g T vg vT h = elim (order g T) [
   | inl l ↦ absurd (below g T (unit_of binary32 g) (pow_pos (size g - 24)) (next_value binary32 g T vg vT l) (few_units g) h)
   | inr l ↦ elim (order T g) [
     | inl m ↦ absurd (above g T (unit_of binary32 T) (pow_pos (size T - 24)) (next_value binary32 T g vT vg m) (few_units T) h)
-    | inr m ↦ same g T l m
+    | inr m ↦ omega arith
   ]
 ]
   where
@@ -69,23 +69,14 @@ one_value g T vg vT h = elim (order g T) [
     above : (g t u : ℕ) → 0 < u → t + u ≤ g → t ≤ 2 ^ 24 * u → dist g t * 2 ^ 40 ≤ t → ⊥
     above g t u p a b h = omega arith
 
-    same : (g t : ℕ) → t ≤ g → g ≤ t → g ≡ t
-    same g t l m = omega arith
-
 -- a number of g smallest values within 2 ^ -40 of 10 ^ n
 more_is : (N : ℕ) → ofℕ N +q dy 1 40 *q ofℕ N ≡ frac false (N * (2 ^ 40 + 1)) (2 ^ 40) (pow_pos 40)
 unfolding ◌+q◌ ◌*q◌ ofℕ ofℤ
-more_is N = is (ap pos (turn N))
-  where
-    turn : (N : ℕ) → (N * (2 ^ 40 * 1) + 1 * N * 1) * 2 ^ 40 ≡ N * (2 ^ 40 + 1) * (1 * (2 ^ 40 * 1))
-    turn N = omega arith
+more_is N = is (ap pos (omega arith))
 
 with_is : (g N : ℕ) → frac false g (2 ^ 149) (pow_pos 149) +q dy 1 40 *q ofℕ N ≡ frac false (g * 2 ^ 40 + N * 2 ^ 149) (2 ^ 189) (pow_pos 189)
 unfolding ◌+q◌ ◌*q◌ ofℕ ofℤ
-with_is g N = is (ap pos (turn g N))
-  where
-    turn : (g N : ℕ) → (g * (2 ^ 40 * 1) + 1 * N * 2 ^ 149) * 2 ^ 189 ≡ (g * 2 ^ 40 + N * 2 ^ 149) * (2 ^ 149 * (2 ^ 40 * 1))
-    turn g N = omega arith
+with_is g N = is (ap pos (omega arith))
 
 near_out : (g N : ℕ) → Bound (frac false g (2 ^ 149) (pow_pos 149) -q ofℕ N) (dy 1 40 *q ofℕ N) → dist g (N * 2 ^ 149) * 2 ^ 40 ≤ N * 2 ^ 149
 unfolding ofℕ ofℤ
@@ -136,13 +127,7 @@ ten_figure n h z fz low plus b =
         quarter = unfold nn ◌-q◌ ◌+q◌ -q◌ in record { le = tt }
 
     down_to : (N : ℕ) → frac false (N * 2 ^ 149) (2 ^ 149) (pow_pos 149) ≡ ofℕ N
-    down_to N = unfold ofℕ ofℤ in is (ap pos (one (N * 2 ^ 149)))
-      where
-        one : (m : ℕ) → m * 1 ≡ m
-        one m = omega arith
+    down_to N = unfold ofℕ ofℤ in is (ap pos (omega arith))
 
     ten_grains : (n : ℕ) → n ≤ 10 → Value binary32 (10 ^ n * 2 ^ 149)
-    ten_grains n h = record { q = 5 ^ n; j = n + 149; few = le_of_lt (five_lt n h); is_value = ap (λ (m : ℕ). m * 2 ^ 149) (sym (ten_is n h)) ∙ turn (5 ^ n) (2 ^ n) (2 ^ 149) ∙ ap (λ (m : ℕ). 5 ^ n * m) (sym (pow-add 2 n 149)) }
-      where
-        turn : (a b c : ℕ) → a * b * c ≡ a * (b * c)
-        turn a b c = omega arith
+    ten_grains n h = record { q = 5 ^ n; j = n + 149; few = le_of_lt (five_lt n h); is_value = ap (λ (m : ℕ). m * 2 ^ 149) (sym (ten_is n h)) ∙ omega arith ∙ ap (λ (m : ℕ). 5 ^ n * m) (sym (pow-add 2 n 149)) }
