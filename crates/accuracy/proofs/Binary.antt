@@ -1,5 +1,5 @@
 -- exp2 whole: every figure is right, exact at whole numbers, in agreement with any other lawful one, and as IEEE 754-2019 has it at the special values.
-use Rattle.std.proofs.Common.{◌≡◌, ℕ, ◌+◌, ◌*◌, ◌/◌, ◌%◌, ◌<◌, ◌≤◌, min, Bool, true, false, cond, not, ◌&&◌, T, ltb, leb, ◌⊎◌, ℤ, pos, negsuc, ◌+ℤ◌, ◌*ℤ◌, neg_ℤ, nat_abs, ◌≤ℤ◌, sym, refl, ap, ◌∙◌, subst, inl, inr, zero-lt-suc, mul-one, arith, lit≤, eqb→eq}
+use Rattle.std.proofs.Common.{◌≡◌, ℕ, ◌*◌, ◌/◌, ◌%◌, ◌<◌, ◌≤◌, min, Bool, true, false, cond, not, ◌&&◌, T, ltb, leb, ℤ, pos, negsuc, ◌+ℤ◌, ◌*ℤ◌, neg_ℤ, nat_abs, ◌≤ℤ◌, sym, refl, ap, ◌∙◌, subst, inl, inr, zero-lt-suc, mul-one, arith, lit≤, eqb→eq, ltb-true, ltb-false, leb-true, leb-false}
 use Rattle.std.specs.Int.Signed.{le_z, le_z_yes}
 use Rattle.std.specs.Float.{Float, nan, inf, fin, binary32}
 use Rattle.std.specs.Float.Ieee.{up, down, fits, is_nan, to_signed, of_bits, to_bits}
@@ -25,7 +25,7 @@ use Rattle.rounding.proofs.Multiple.{Mult, mult_whole}
 use Rattle.rounding.proofs.Cast.{cast_value}
 use Rattle.rounding.proofs.Patterns.{sized}
 use Rattle.arithmetic.specs.Arithmetic.{Arithmetic, Lawful}
-use Rattle.arithmetic.specs.Signs.{order, signed_mul, signed_size, size_mul}
+use Rattle.arithmetic.specs.Signs.{signed_mul, signed_size, size_mul}
 use Rattle.curves.specs.Steps.{pattern, magnitude, single}
 use Rattle.curves.specs.Exp2.{is_whole, in_powers, bits_of_power, exp2_small_value, exp2_table_value, exp2_value, Exp2Reaches}
 use Rattle.curves.proofs.Decimal.{same_integer}
@@ -41,7 +41,6 @@ use Rattle.accuracy.proofs.PowerLimits.{last}
 use Rattle.accuracy.proofs.PowerBands.{infinite_right, one_right, zero_from, zero_right, least_right, whole_right}
 use Rattle.accuracy.proofs.BinaryPolynomial.{small_wide}
 use Rattle.accuracy.proofs.BinaryTable.{table_wide}
-use Rattle.accuracy.proofs.Tests.{less, not_less, up_to_is, not_up_to, both_hold, left_fails, right_fails, taken, left}
 
 -- ---- the band of a number, and its figure under every arithmetic
 pub data Band (x : Float) : Type 0 where
@@ -54,54 +53,24 @@ pub data Band (x : Float) : Type 0 where
   table : Exp2Reaches x → ((a : Arithmetic) → exp2_value a x ≡ exp2_table_value a x) → Band x
 
 pub band : (x : Float) → T (not (is_nan x)) → Band x
-band x number = by_whole (in_powers x) refl
+band x number =
+    go (in_powers x) (ltb (magnitude x) 0x3280_0000) (ltb 0xc315_0000 (pattern x)) (ltb (pattern x) 0xc316_0000) (leb 0xc316_0000 (pattern x)) (ltb (pattern x) 0x8000_0000) (leb 0x4300_0000 (pattern x)) (leb (magnitude x) 0x3d00_0000)
+    refl refl refl refl refl refl refl refl
   where
-    e₀ : is_nan x ≡ false
-    e₀ = is_false (is_nan x) number
+    n : is_nan x ≡ false
+    n = is_false (is_nan x) number
 
-    -- past the bands of +0 and 2 ^ -149, and past that of infinity
-    by_size : in_powers x ≡ false → 0x3280_0000 ≤ magnitude x → pattern x ≤ 0xc315_0000 → (pattern x < 0x4300_0000) ⊎ (0x8000_0000 ≤ pattern x) → (ltb (pattern x) 0x8000_0000 && leb 0x4300_0000 (pattern x)) ≡ false → Band x
-    by_size e₁ h₂ h₃ h₄ e₅ =
-        let e₂ = not_less (magnitude x) 0x3280_0000 h₂ in
-        let e₃ = left_fails (ltb 0xc315_0000 (pattern x)) (ltb (pattern x) 0xc316_0000) (not_less 0xc315_0000 (pattern x) h₃) in
-        let e₄ = not_up_to 0xc316_0000 (pattern x) (omega arith) in
-        elim (order 0x3d00_0000 (magnitude x)) [
-          | inl g ↦ table (record { number = number; broken = e₁; past_small = g; limits = elim h₄ [ inl l ↦ inl l | inr l ↦ inr (l, h₃) ] })
-              (λ a. left (is_nan x) _ _ e₀ ∙ left (in_powers x) _ _ e₁ ∙ left (ltb (magnitude x) 0x3280_0000) _ _ e₂ ∙ left (ltb 0xc315_0000 (pattern x) && ltb (pattern x) 0xc316_0000) _ _ e₃ ∙ left (leb 0xc316_0000 (pattern x)) _ _ e₄ ∙ left (ltb (pattern x) 0x8000_0000 && leb 0x4300_0000 (pattern x)) _ _ e₅ ∙ left (leb (magnitude x) 0x3d00_0000) _ _ (not_up_to (magnitude x) 0x3d00_0000 g))
-          | inr g ↦ small g (λ a. left (is_nan x) _ _ e₀ ∙ left (in_powers x) _ _ e₁ ∙ left (ltb (magnitude x) 0x3280_0000) _ _ e₂ ∙ left (ltb 0xc315_0000 (pattern x) && ltb (pattern x) 0xc316_0000) _ _ e₃ ∙ left (leb 0xc316_0000 (pattern x)) _ _ e₄ ∙ left (ltb (pattern x) 0x8000_0000 && leb 0x4300_0000 (pattern x)) _ _ e₅ ∙ taken (leb (magnitude x) 0x3d00_0000) _ _ (up_to_is (magnitude x) 0x3d00_0000 g))
-        ]
-
-    by_sign : in_powers x ≡ false → 0x3280_0000 ≤ magnitude x → pattern x ≤ 0xc315_0000 → Band x
-    by_sign e₁ h₂ h₃ =
-        let e₂ = not_less (magnitude x) 0x3280_0000 h₂ in
-        let e₃ = left_fails (ltb 0xc315_0000 (pattern x)) (ltb (pattern x) 0xc316_0000) (not_less 0xc315_0000 (pattern x) h₃) in
-        let e₄ = not_up_to 0xc316_0000 (pattern x) (omega arith) in
-        elim (order (pattern x) 0x8000_0000) [
-          | inl s ↦ elim (order (pattern x) 0x4300_0000) [
-            | inl g ↦ by_size e₁ h₂ h₃ (inl g) (right_fails (ltb (pattern x) 0x8000_0000) (leb 0x4300_0000 (pattern x)) (not_up_to 0x4300_0000 (pattern x) g))
-            | inr g ↦ infinite s g (λ a. left (is_nan x) _ _ e₀ ∙ left (in_powers x) _ _ e₁ ∙ left (ltb (magnitude x) 0x3280_0000) _ _ e₂ ∙ left (ltb 0xc315_0000 (pattern x) && ltb (pattern x) 0xc316_0000) _ _ e₃ ∙ left (leb 0xc316_0000 (pattern x)) _ _ e₄
-                ∙ taken (ltb (pattern x) 0x8000_0000 && leb 0x4300_0000 (pattern x)) _ _ (both_hold (ltb (pattern x) 0x8000_0000) (leb 0x4300_0000 (pattern x)) (less (pattern x) 0x8000_0000 s) (up_to_is 0x4300_0000 (pattern x) g)))
-          ]
-          | inr s ↦ by_size e₁ h₂ h₃ (inr s) (left_fails (ltb (pattern x) 0x8000_0000) (leb 0x4300_0000 (pattern x)) (not_less (pattern x) 0x8000_0000 s))
-        ]
-
-    by_end : in_powers x ≡ false → 0x3280_0000 ≤ magnitude x → Band x
-    by_end e₁ h₂ =
-        let e₂ = not_less (magnitude x) 0x3280_0000 h₂ in
-        elim (order (pattern x) 0xc316_0000) [
-          | inl g ↦ elim (order 0xc315_0000 (pattern x)) [
-            | inl l ↦ least l g (λ a. left (is_nan x) _ _ e₀ ∙ left (in_powers x) _ _ e₁ ∙ left (ltb (magnitude x) 0x3280_0000) _ _ e₂ ∙ taken (ltb 0xc315_0000 (pattern x) && ltb (pattern x) 0xc316_0000) _ _ (both_hold (ltb 0xc315_0000 (pattern x)) (ltb (pattern x) 0xc316_0000) (less 0xc315_0000 (pattern x) l) (less (pattern x) 0xc316_0000 g)))
-            | inr l ↦ by_sign e₁ h₂ l
-          ]
-          | inr g ↦ zero_band g (λ a. left (is_nan x) _ _ e₀ ∙ left (in_powers x) _ _ e₁ ∙ left (ltb (magnitude x) 0x3280_0000) _ _ e₂ ∙ left (ltb 0xc315_0000 (pattern x) && ltb (pattern x) 0xc316_0000) _ _ (right_fails (ltb 0xc315_0000 (pattern x)) (ltb (pattern x) 0xc316_0000) (not_less (pattern x) 0xc316_0000 g)) ∙ taken (leb 0xc316_0000 (pattern x)) _ _ (up_to_is 0xc316_0000 (pattern x) g))
-        ]
-
-    by_whole : (b : Bool) → in_powers x ≡ b → Band x
-    by_whole true e = whole (subst T (sym e) tt) (λ a. left (is_nan x) _ _ e₀ ∙ taken (in_powers x) _ _ e)
-    by_whole false e = elim (order (magnitude x) 0x3280_0000) [
-      | inl g ↦ one g (λ a. left (is_nan x) _ _ e₀ ∙ left (in_powers x) _ _ e ∙ taken (ltb (magnitude x) 0x3280_0000) _ _ (less (magnitude x) 0x3280_0000 g))
-      | inr g ↦ by_end e g
-    ]
+    go : (b p q r z s u v : Bool) → in_powers x ≡ b → ltb (magnitude x) 0x3280_0000 ≡ p → ltb 0xc315_0000 (pattern x) ≡ q → ltb (pattern x) 0xc316_0000 ≡ r → leb 0xc316_0000 (pattern x) ≡ z → ltb (pattern x) 0x8000_0000 ≡ s → leb 0x4300_0000 (pattern x) ≡ u
+        → leb (magnitude x) 0x3d00_0000 ≡ v → Band x
+    go true p q r z s u v c d e f g h i k = whole (subst T (sym c) tt) (λ a. simp (n, c))
+    go false true q r z s u v c d e f g h i k = one (ltb-true _ _ d) (λ a. simp (n, c, d))
+    go false false true true z s u v c d e f g h i k = least (ltb-true _ _ e) (ltb-true _ _ f) (λ a. simp (n, c, d, e, f))
+    go false false q r true s u v c d e f g h i k = zero_band (leb-true _ _ g) (λ a. simp (n, c, d, e, f, g))
+    go false false true false false s u v c d e f g h i k = absurd (omega (arith, ltb-false _ _ f, leb-false _ _ g))
+    go false false false r false true true v c d e f g h i k = infinite (ltb-true _ _ h) (leb-true _ _ i) (λ a. simp (n, c, d, e, f, g, h, i))
+    go false false false r false s u true c d e f g h i k = small (leb-true _ _ k) (λ a. simp (n, c, d, e, f, g, h, i, k))
+    go false false false r false true false false c d e f g h i k = table record { number = number; broken = c; past_small = leb-false _ _ k; limits = inl (leb-false _ _ i) } (λ a. simp (n, c, d, e, f, g, h, i, k))
+    go false false false r false false u false c d e f g h i k = table record { number = number; broken = c; past_small = leb-false _ _ k; limits = inr (ltb-false _ _ h, ltb-false _ _ e) } (λ a. simp (n, c, d, e, f, g, h, i, k))
 
 -- ---- whole numbers
 -- what the test of a whole number says
@@ -198,7 +167,7 @@ exp2_agrees_lem a b v u x w t = agree_at x w t a b v u (band x (numberless x t))
 exact_at : (a : Arithmetic) (x : Float) (k : ℤ) → negsuc 148 ≤ℤ k → k ≤ℤ pos 127 → T (finite x) → Same (value x) (integer k) → exp2_value a x ≡ fin false 1 k
 exact_at a x k l h t e =
     let o = whole_in x k l h t e in
-    left (is_nan x) _ _ (is_false (is_nan x) (numberless x t)) ∙ taken (in_powers x) _ _ (is_true (in_powers x) o.0) ∙ ap (fin false 1) o.1
+    simp (is_false (is_nan x) (numberless x t), is_true (in_powers x) o.0) (ap (fin false 1) o.1)
 
 exp2_exact : CurveExact exp2
 exp2_exact a v x w k l h t e = exact_at a x k l h t e

@@ -1,7 +1,7 @@
 -- An f32 by its pattern: its value, and the order of values by the order of patterns.
 use Rattle.std.proofs.Common.{◌≡◌, ℕ, ◌+◌, ◌-◌, ◌*◌, ◌/◌, ◌%◌, ◌^◌, ◌<◌, ◌≤◌, Bool, true, false, cond, not, T, eqb, leb, ◌⊎◌, ℤ, sym, refl, ap, ◌∙◌, subst, inl, inr, eq-zero-or-pos, arith, pow_pos, bit_and}
 use Rattle.std.specs.Float.{Float, nan, inf, fin, binary32}
-use Rattle.std.specs.Float.Ieee.{fits, is_nan, of_bits, of_fields, up, down, size}
+use Rattle.std.specs.Float.Ieee.{fits, is_nan, of_bits, of_fields, up, size}
 use Rattle.std.specs.Float.Ieee.Bits.{of_bits-to_bits, to_bits-lt}
 use Rattle.std.specs.Float.Ieee.Scale.{finite}
 use Rattle.std.proofs.lemmas.Nat.{and_mask}
