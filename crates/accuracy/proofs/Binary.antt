@@ -40,7 +40,7 @@ use Rattle.accuracy.proofs.PowerLimits as Limits
 use Rattle.accuracy.proofs.PowerLimits.{last}
 use Rattle.accuracy.proofs.PowerBands.{infinite_right, one_right, zero_from, zero_right, least_right, whole_right}
 use Rattle.accuracy.proofs.BinaryPolynomial.{small_wide}
-use Rattle.accuracy.proofs.BinaryTable.{table_wide}
+use Rattle.accuracy.proofs.BinaryTable.{by_row}
 
 -- ---- the band of a number, and its figure under every arithmetic
 pub data Band (x : Float) : Type 0 where
@@ -146,7 +146,7 @@ module _ (x : Float) (w : T (fits binary32 x)) (t : T (finite x)) where
   right_at a v (zero_band h e) = zero_right binary x (exp2_value a x) (e a ∙ singles.2) (q_trans (down_from x w t 0x4316_0000 (omega arith)) nums.4)
   right_at a v (infinite s h e) = infinite_right binary x (exp2_value a x) (e a ∙ singles.3) (exp2_first x w t s h)
   right_at a v (small h e) = subst (λ (y : Float). Right exp2 x y) (sym (e a)) (right exp2 x _ 1 (small_placed h) (small_wide a.fma (fma_law a v) x t w (near_zero x w t h)))
-  right_at a v (table r e) = subst (λ (y : Float). Right exp2 x y) (sym (e a)) (right exp2 x _ 162 (table_placed r) (table_wide a v x w r))
+  right_at a v (table r e) = subst (λ (y : Float). Right exp2 x y) (sym (e a)) (right exp2 x _ 162 (table_placed r) (by_row a v x w r).wide)
 
   agree_at : (a b : Arithmetic) → Lawful a → Lawful b → Band x → Agree exp2 x (exp2_value a x) (exp2_value b x)
   agree_at a b v u (whole q e) = equal (e a ∙ sym (e b))
@@ -155,7 +155,7 @@ module _ (x : Float) (w : T (fits binary32 x)) (t : T (finite x)) where
   agree_at a b v u (zero_band h e) = equal (e a ∙ sym (e b))
   agree_at a b v u (infinite s h e) = equal (e a ∙ sym (e b))
   agree_at a b v u (small h e) = subst (λ (y : Float). Agree exp2 x y (exp2_value b x)) (sym (e a)) (subst (λ (y : Float). Agree exp2 x (exp2_small_value a x) y) (sym (e b)) (agree exp2 x _ _ 1 (small_placed h) (small_wide a.fma (fma_law a v) x t w (near_zero x w t h)) (small_wide b.fma (fma_law b u) x t w (near_zero x w t h))))
-  agree_at a b v u (table r e) = subst (λ (y : Float). Agree exp2 x y (exp2_value b x)) (sym (e a)) (subst (λ (y : Float). Agree exp2 x (exp2_table_value a x) y) (sym (e b)) (agree exp2 x _ _ 162 (table_placed r) (table_wide a v x w r) (table_wide b u x w r)))
+  agree_at a b v u (table r e) = subst (λ (y : Float). Agree exp2 x y (exp2_value b x)) (sym (e a)) (subst (λ (y : Float). Agree exp2 x (exp2_table_value a x) y) (sym (e b)) (agree exp2 x _ _ 162 (table_placed r) (by_row a v x w r).wide (by_row b u x w r).wide))
 
 exp2_right : CurveRight exp2
 exp2_right a v x w t = right_at x w t a v (band x (numberless x t))

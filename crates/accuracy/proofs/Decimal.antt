@@ -35,7 +35,7 @@ use Rattle.accuracy.proofs.PowerLimits as Limits
 use Rattle.accuracy.proofs.PowerLimits.{last, first}
 use Rattle.accuracy.proofs.PowerBands.{infinite_right, zero_from, zero_right}
 use Rattle.accuracy.proofs.DecimalPolynomial.{small_wide}
-use Rattle.accuracy.proofs.DecimalTable.{wide, table_is_near, table_wide}
+use Rattle.accuracy.proofs.DecimalTable.{wide, by_row}
 use Rattle.accuracy.proofs.NearOne.{near_one_right, choice, stays_one, falls_below}
 use Rattle.accuracy.proofs.TenPowers.{ten_figure}
 
@@ -82,14 +82,14 @@ module _ (x : Float) (w : T (fits binary32 x)) (t : T (finite x)) where
   right_at a v (zero_band h e) = zero_right decimal x (exp10_value a x) (e a ∙ singles.0) (q_trans (down_from x w t 0x4234_9e36 (omega arith)) nums.1)
   right_at a v (one h e) = subst (λ (y : Float). Right exp10 x y) (sym (e a)) (near_one_right x w t h)
   right_at a v (small g h e) = subst (λ (y : Float). Right exp10 x y) (sym (e a)) (right exp10 x _ 1 (small_placed h) (small_wide a.fma (fma_law a v) x t w (near_zero x w t h)))
-  right_at a v (table r e) = subst (λ (y : Float). Right exp10 x y) (sym (e a)) (right exp10 x _ 162 (under (table_under r)) (table_wide a v x w r))
+  right_at a v (table r e) = subst (λ (y : Float). Right exp10 x y) (sym (e a)) (right exp10 x _ 162 (under (table_under r)) (by_row a v x w r).wide)
 
   agree_at : (a b : Arithmetic) → Lawful a → Lawful b → Band x → Agree exp10 x (exp10_value a x) (exp10_value b x)
   agree_at a b v u (infinite s h e) = equal (e a ∙ sym (e b))
   agree_at a b v u (zero_band h e) = equal (e a ∙ sym (e b))
   agree_at a b v u (one h e) = equal (e a ∙ sym (e b))
   agree_at a b v u (small g h e) = subst (λ (y : Float). Agree exp10 x y (exp10_value b x)) (sym (e a)) (subst (λ (y : Float). Agree exp10 x (exp10_small_value a x) y) (sym (e b)) (agree exp10 x _ _ 1 (small_placed h) (small_wide a.fma (fma_law a v) x t w (near_zero x w t h)) (small_wide b.fma (fma_law b u) x t w (near_zero x w t h))))
-  agree_at a b v u (table r e) = subst (λ (y : Float). Agree exp10 x y (exp10_value b x)) (sym (e a)) (subst (λ (y : Float). Agree exp10 x (exp10_table_value a x) y) (sym (e b)) (agree exp10 x _ _ 162 (under (table_under r)) (table_wide a v x w r) (table_wide b u x w r)))
+  agree_at a b v u (table r e) = subst (λ (y : Float). Agree exp10 x y (exp10_value b x)) (sym (e a)) (subst (λ (y : Float). Agree exp10 x (exp10_table_value a x) y) (sym (e b)) (agree exp10 x _ _ 162 (under (table_under r)) (by_row a v x w r).wide (by_row b u x w r).wide))
 
 exp10_right : CurveRight exp10
 exp10_right a v x w t = right_at x w t a v (band x (numberless x t))
@@ -143,9 +143,9 @@ module _ (x : Float) (w : T (fits binary32 x)) (t : T (finite x)) (n : ℕ) (h :
   table_figure : (a : Arithmetic) (v : Lawful a) (r : Exp10Reaches x) → T (finite (exp10_table_value a x)) × Same (value (exp10_table_value a x)) (whole (10 ^ n))
   table_figure a v r =
       let z = wide a v x w r in
-      let b = table_wide a v x w r in
+      let b = (by_row a v x w r).wide in
       let nz : T (nn (val z)) = le_nn (q_trans (nn_le (nn_dy 1 162)) b.above) in
-      let k = table_is_near a v x w r in
+      let k = (by_row a v x w r).near in
       let m = k.start 0 + 1000 in
       let s : Bound (sum exp10 (value x) 0 m -q ofℕ (10 ^ n)) (dy 1 74 *q ofℕ (10 ^ n)) = at_whole m (omega arith) in
       let q : Bound (val z -q sum exp10 (value x) 0 m) (dy 1 43 *q val z) = subst (λ (u : ℚ). Bound (val z -q sum exp10 (value x) 0 m) (dy 1 43 *q u)) (abs_nn (val z) nz) (k.off 0 m (omega arith)) in

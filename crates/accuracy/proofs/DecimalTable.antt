@@ -29,7 +29,7 @@ use Rattle.curves.proofs.Decimal.{step, most_lo, Ready, input, input_size, input
 use Rattle.curves.proofs.Law.{fma_law, near_whole}
 use Rattle.accuracy.proofs.Outcome.{Near, near_positive, nearer, close, Wide}
 use Rattle.accuracy.proofs.PowerProduct.{Coefficients}
-use Rattle.accuracy.proofs.PowerTable.{part_split, Approximates, mh_low, mh_high, table_near, table_finite, table_low}
+use Rattle.accuracy.proofs.PowerTable.{part_split, Approximates, FromRow, from_row}
 use Rattle.accuracy.proofs.PowerRows.{mid_rule}
 
 -- ---- the coefficients
@@ -111,9 +111,9 @@ step_near : Bound (step *q root decimal +q inv 31 *q root binary) (dy 1 90) × B
 unfolding nn ◌-q◌ ◌+q◌ -q◌ ◌*q◌ val of_bits ofℕ ofℤ inv
 step_near = (record { hi = record { le = tt }; lo = record { le = tt } }, record { hi = record { le = tt }; lo = record { le = tt } })
 
-nums : (ofℕ 46 *q dy 1 84 +q (dy 1 60 *q dy 2359 10 +q ofℕ 4923 *q dy 1 90) ≤q dy 1 58) × (most_lo ≤q dy 1 7) × (dy 1 43 ≤q close)
+nums : (ofℕ 46 *q dy 1 84 +q (dy 1 60 *q dy 2359 10 +q ofℕ 4923 *q dy 1 90) ≤q dy 1 58) × (most_lo ≤q dy 1 7)
 unfolding nn ◌-q◌ ◌+q◌ -q◌ ◌*q◌ ofℕ ofℤ
-nums = (record { le = tt }, record { le = tt }, record { le = tt })
+nums = (record { le = tt }, record { le = tt })
 
 module _ (a : Arithmetic) (v : Lawful a) (x : Float) (w : T (fits binary32 x)) (t : Exp10Reaches x) where
   near_k : NearWhole binary64 (mul binary64 log2_ten x) (kd a x)
@@ -156,23 +156,6 @@ module _ (a : Arithmetic) (v : Lawful a) (x : Float) (w : T (fits binary32 x)) (
       ring : (x l e o k m v : ℚ) → x *q (l -q e) +q (-q◌ ((o -q (x +q k *q m)) *q e) +q -q◌ (k *q (m *q e +q v))) ≡ x *q l -q (k *q v +q o *q e)
       ring x l e o k m v = unfold norm ◌-q◌ in qring (x₀ ⊗ (x₁ ⊖ x₂) ⊕ (⊝ ((x₃ ⊖ (x₀ ⊕ x₄ ⊗ x₅)) ⊗ x₂) ⊕ ⊝ (x₄ ⊗ (x₅ ⊗ x₂ ⊕ x₆)))) (x₀ ⊗ x₁ ⊖ (x₄ ⊗ x₆ ⊕ x₃ ⊗ x₂)) refl (x ∷ l ∷ e ∷ o ∷ k ∷ m ∷ v ∷ [])
 
-  pub hi_low : dy 1 160 ≤q val (hi a x)
-  hi_low = mh_low decimal most_lo nums.1 k₀ k₁ k₂ k₃ k₄ coefficients approximates a.fma (fma_law a v) (lo a x) (hi a x) lo_fine lo_small (shr_z (k a x) 32) (powers_small (k a x) powers) (row table_exp2_mid (row_of 32 (k a x))) _ (mid_rule (row_of 32 (k a x)) powers.row) row_scaled.0 row_scaled.1
-
-  pub hi_high : val (hi a x) ≤q ofℕ (2 ^ 160)
-  hi_high = mh_high decimal most_lo nums.1 k₀ k₁ k₂ k₃ k₄ coefficients approximates a.fma (fma_law a v) (lo a x) (hi a x) lo_fine lo_small (shr_z (k a x) 32) (powers_small (k a x) powers) (row table_exp2_mid (row_of 32 (k a x))) _ (mid_rule (row_of 32 (k a x)) powers.row) row_scaled.0 row_scaled.1
-
-  pub wide_low : dy 1 162 ≤q val wide
-  wide_low = table_low decimal most_lo nums.1 k₀ k₁ k₂ k₃ k₄ coefficients approximates a.fma (fma_law a v) (lo a x) (hi a x) lo_fine lo_small (shr_z (k a x) 32) (powers_small (k a x) powers) (row table_exp2_mid (row_of 32 (k a x))) _ (mid_rule (row_of 32 (k a x)) powers.row) row_scaled.0 row_scaled.1
-
   -- the f64 before the narrowing
-  pub table_is_near : Near exp10 (value x) (dy 1 43) wide
-  table_is_near =
-      near_positive exp10 (value x) (dy 1 43) wide
-      (table_finite decimal most_lo nums.1 k₀ k₁ k₂ k₃ k₄ coefficients approximates a.fma (fma_law a v) (lo a x) (hi a x) lo_fine lo_small (shr_z (k a x) 32) (powers_small (k a x) powers) (row table_exp2_mid (row_of 32 (k a x))) _ (mid_rule (row_of 32 (k a x)) powers.row) row_scaled.0 row_scaled.1)
-      (le_nn (q_trans (nn_le (nn_dy 1 162)) wide_low)) (λ j. 1000) (λ j n l.
-      subst (λ (u : ℚ). Bound (val wide -q S (u *q low decimal (from 80 j)) n) (dy 1 43 *q val wide)) (val_value x)
-      (table_near decimal most_lo nums.1 k₀ k₁ k₂ k₃ k₄ coefficients approximates a.fma (fma_law a v) (lo a x) (hi a x) lo_fine lo_small (shr_z (k a x) 32) (powers_small (k a x) powers) (row table_exp2_mid (row_of 32 (k a x))) _ (mid_rule (row_of 32 (k a x)) powers.row) row_scaled.0 row_scaled.1 n l (val x *q low decimal (from 80 j)) (split j)))
-
-  pub table_wide : Wide exp10 (value x) 162 wide
-  table_wide = record { above = wide_low; near = nearer close nums.2 table_is_near }
+  pub by_row : FromRow decimal x (hi a x) wide
+  by_row = from_row decimal most_lo nums.1 k₀ k₁ k₂ k₃ k₄ coefficients approximates a.fma (fma_law a v) (lo a x) (hi a x) lo_fine lo_small (shr_z (k a x) 32) (powers_small (k a x) powers) (row table_exp2_mid (row_of 32 (k a x))) _ (mid_rule (row_of 32 (k a x)) powers.row) row_scaled.0 row_scaled.1 x split

@@ -32,7 +32,7 @@ near_by f e x z w = record {
 }
 
 pub exp2_inner : Exp2Inner
-exp2_inner a v x w = (λ t. (refl, near_by exp2 43 x _ (Binary.table_is_near a v x w t)), λ t h. (refl, near_by exp2 47 x _ (Six.small_is_near a.fma (fma_law a v) x t w (near_zero x w t h))))
+exp2_inner a v x w = (λ t. (refl, near_by exp2 43 x _ (Binary.by_row a v x w t).near), λ t h. (refl, near_by exp2 47 x _ (Six.small_is_near a.fma (fma_law a v) x t w (near_zero x w t h))))
 
 pub exp10_inner : Exp10Inner
-exp10_inner a v x w = (λ t. (refl, near_by exp10 43 x _ (Decimal.table_is_near a v x w t)), λ t h. (refl, near_by exp10 43 x _ (Seven.small_is_near a.fma (fma_law a v) x t w (near_zero x w t h))))
+exp10_inner a v x w = (λ t. (refl, near_by exp10 43 x _ (Decimal.by_row a v x w t).near), λ t h. (refl, near_by exp10 43 x _ (Seven.small_is_near a.fma (fma_law a v) x t w (near_zero x w t h))))

@@ -14,18 +14,22 @@ use Rattle.exact.proofs.Order.{nn, nn_mul, ◌≤q◌, le_by, q_trans, q_add, q_
 use Rattle.exact.proofs.Bound.{ofℕ, inv, nn_ofℕ, ofℕ_mono, nn_le, le_nn, Bound, bound_more, bound_add, bound_mul, bound_self, bound_neg, mul_right, mul_mono}
 use Rattle.exact.proofs.Compare.{fr, nn_dy, dy_mono, leq_in, dy}
 use Rattle.exact.proofs.Relative.{Rel, rel_mul}
-use Rattle.exact.proofs.Series.{term, S, R, later, tail}
+use Rattle.exact.proofs.Series.{term, S, R, from, later, tail}
 use Rattle.exact.proofs.Product.{mult₃}
 use Rattle.exact.proofs.Shift.{shifted}
-use Rattle.exact.proofs.Logarithm.{root}
+use Rattle.exact.proofs.Logarithm.{root, low}
 use Rattle.exact.proofs.Powers.{raise, raised, rest_small, pow_whole, pow_half}
 use Rattle.exact.proofs.Table.{root_bound}
 use Rattle.rounding.specs.Units.{power}
-use Rattle.rounding.proofs.Value.{val}
+use Rattle.rounding.proofs.Value.{val, val_value}
 use Rattle.rounding.proofs.Range.{FmaLaw}
 use Rattle.curves.specs.Steps.{times_power_value}
 use Rattle.curves.proofs.Decimal.{Ready}
 use Rattle.accuracy.proofs.PowerProduct.{unit, Coefficients, poly, product_near, poly_range}
+use Rattle.exact.specs.Laws.{of_base}
+use Rattle.rounding.specs.Values.{value}
+use Rattle.accuracy.proofs.Outcome.{Near, near_positive, nearer, close, Wide}
+use Rattle.accuracy.proofs.PowerLimits.{sum_is}
 
 -- ---- the polynomial against the series
 -- the coefficients are near those of b ^ t, for a t of size E at most
@@ -140,6 +144,13 @@ pub record RowRule (y : Float) (r : ℚ) : Type 0 where
   pub below : val y ≤q ofℕ 2
   pub argument : Bound r (ofℕ 1)
 
+-- the value z of a row mh at x: the row's size, and how near z is to b ^ x
+pub record FromRow (b : Base) (x mh z : Float) : Type 0 where
+  pub row_low : dy 1 160 ≤q val mh
+  pub row_high : val mh ≤q ofℕ (2 ^ 160)
+  pub near : Near (of_base b) (value x) (dy 1 43) z
+  pub wide : Wide (of_base b) (value x) 162 z
+
 abbrev err₁ : ℚ
 err₁ = dy 1 80 +q dy 1 52 +q dy 1 80 *q dy 1 52
 
@@ -152,9 +163,9 @@ err₃ = err₂ +q dy 1 60
 abbrev err₄ : ℚ
 err₄ = err₃ +q (dy 1 58 +q dy 1 58) +q err₃ *q (dy 1 58 +q dy 1 58) +q dy 1 60
 
-err_nums : (dy 1 49 +q err₄ ≤q dy 1 44) × (dy 1 44 ≤q dy 1 43 *q (ofℤ (pos 1) -q dy 1 49)) × (dy 1 50 ≤q dy 1 49 *q dy 31 5) × (dy 1 1 ≤q ofℤ (pos 1) -q dy 1 49) × (dy 1 162 ≤q dy 1 1 *q (dy 1 160 *q dy 31 5)) × (dy 1 46 ≤q dy 1 45 *q dy 31 5)
+err_nums : (dy 1 49 +q err₄ ≤q dy 1 44) × (dy 1 44 ≤q dy 1 43 *q (ofℤ (pos 1) -q dy 1 49)) × (dy 1 50 ≤q dy 1 49 *q dy 31 5) × (dy 1 1 ≤q ofℤ (pos 1) -q dy 1 49) × (dy 1 162 ≤q dy 1 1 *q (dy 1 160 *q dy 31 5)) × (dy 1 46 ≤q dy 1 45 *q dy 31 5) × (dy 1 43 ≤q close)
 unfolding nn ◌-q◌ ◌+q◌ -q◌ ◌*q◌ ofℕ ofℤ
-err_nums = (record { le = tt }, record { le = tt }, record { le = tt }, record { le = tt }, record { le = tt }, record { le = tt })
+err_nums = (record { le = tt }, record { le = tt }, record { le = tt }, record { le = tt }, record { le = tt }, record { le = tt }, record { le = tt })
 
 abbrev H : ℚ
 H = ofℕ 160 *q ofℕ 1
@@ -191,10 +202,10 @@ module _ (b : Base) (E : ℚ) (small-E : E ≤q dy 1 7) (k₀ k₁ k₂ k₃ k�
   nn_p : T (nn (cls (power h)))
   nn_p = le_nn (q_trans (nn_le (nn_dy 1 159)) (power_range h hs).0)
 
-  pub mh_low : dy 1 160 ≤q val mh
+  mh_low : dy 1 160 ≤q val mh
   mh_low = subst (λ (u : ℚ). dy 1 160 ≤q u) (sym vm) (q_trans size_nums.6 (mul_mono (nn_ofℕ 1) (nn_dy 1 159) rule.above (power_range h hs).0))
 
-  pub mh_high : val mh ≤q ofℕ (2 ^ 160)
+  mh_high : val mh ≤q ofℕ (2 ^ 160)
   mh_high = subst (λ (u : ℚ). u ≤q ofℕ (2 ^ 160)) (sym vm) (q_trans (mul_mono nn_y nn_p rule.below (power_range h hs).1) size_nums.7)
 
   mh_nn : T (nn (val mh))
@@ -294,7 +305,7 @@ module _ (b : Base) (E : ℚ) (small-E : E ≤q dy 1 7) (k₀ k₁ k₂ k₃ k�
     z_over = le_by (val z -q W -q (-q◌ (dy 1 49 *q W))) z_part.lo.le (qring (x₀ ⊖ (con (pos 1) ⊖ x₂) ⊗ x₁) (x₀ ⊖ x₁ ⊖ ⊝ (x₂ ⊗ x₁)) refl (val z ∷ W ∷ dy 1 49 ∷ []))
 
     -- z is within 2 ^ -43 of itself of every sum at t
-    pub table_near : (t : ℚ) → Bound (t -q (ofℤ h *q root binary +q r +q val lo *q root b)) (dy 1 58) → Bound (val z -q S t n) (dy 1 43 *q val z)
+    table_near : (t : ℚ) → Bound (t -q (ofℤ h *q root binary +q r +q val lo *q root b)) (dy 1 58) → Bound (val z -q S t n) (dy 1 43 *q val z)
     unfolding norm ◌-q◌
     table_near t bt =
         let v = S t n in
@@ -304,8 +315,13 @@ module _ (b : Base) (E : ℚ) (small-E : E ≤q dy 1 7) (k₀ k₁ k₂ k₃ k�
         (q_trans (mul_right W W_nn err_nums.1)
         (subst (λ (u : ℚ). u ≤q dy 1 43 *q val z) (qring (x₀ ⊗ (x₁ ⊗ x₂)) (x₀ ⊗ x₁ ⊗ x₂) refl (dy 1 43 ∷ (ofℤ (pos 1) -q dy 1 49) ∷ W ∷ [])) (q_mul (dy 1 43) (nn_dy 1 43) z_over))))
 
-  pub table_finite : T (finite z)
-  table_finite = computed.0
-
-  pub table_low : dy 1 162 ≤q val z
+  table_low : dy 1 162 ≤q val z
   table_low = q_trans err_nums.4 (q_trans (q_mul (dy 1 1) (nn_dy 1 1) W_low) (q_trans (mul_right W W_nn err_nums.3) (z_over 1000 (lit≤ tt))))
+
+  -- for the x of which lo is the rest
+  pub from_row : (x : Float) → ((j : ℕ) → Bound (val x *q low b (from 80 j) -q (ofℤ h *q root binary +q r +q val lo *q root b)) (dy 1 58)) → FromRow b x mh z
+  from_row x split = record { row_low = mh_low; row_high = mh_high; near = near; wide = record { above = table_low; near = nearer close err_nums.6 near } }
+    where
+      near : Near (of_base b) (value x) (dy 1 43) z
+      near = near_positive (of_base b) (value x) (dy 1 43) z computed.0 (le_nn (q_trans (nn_le (nn_dy 1 162)) table_low)) (λ j. 1000) (λ j n l.
+          subst (λ (u : ℚ). Bound (val z -q u) (dy 1 43 *q val z)) (ap (λ (u : ℚ). S (u *q low b (from 80 j)) n) (val_value x) ∙ sym (sum_is b (value x) j n)) (table_near n l (val x *q low b (from 80 j)) (split j)))
