@@ -9,14 +9,13 @@ use Rattle.std.proofs.lemmas.Int.{ints}
 use std.Quotient.{cls}
 use Rattle.exact.specs.Fraction.{dyadic}
 use Rattle.exact.specs.Logarithm.{binary}
-use Rattle.exact.specs.Exact.{exp2}
 use Rattle.exact.proofs.Ring.{◌⊕◌, ◌⊖◌, ◌⊗◌, ⊝, norm}
 use Rattle.exact.proofs.Integer.{x₀, x₁, x₂, x₃}
 use Rattle.exact.proofs.Rational.{ℚ, is, ◌+q◌, ◌*q◌, -q◌, ◌-q◌, ofℤ, qring}
-use Rattle.exact.proofs.Order.{nn, ◌≤q◌, q_trans}
-use Rattle.exact.proofs.Bound.{ofℕ, inv, nn_le, le_nn, Bound, bound_more, bound_add, bound_mul, bound_neg}
-use Rattle.exact.proofs.Compare.{diff_cls, integer_cls, abs_in, fr, nn_dy, dy}
-use Rattle.exact.proofs.Series.{term, S, from}
+use Rattle.exact.proofs.Order.{nn, ◌≤q◌}
+use Rattle.exact.proofs.Bound.{ofℕ, inv, Bound, bound_more, bound_add, bound_mul, bound_neg, bound_is}
+use Rattle.exact.proofs.Compare.{diff_cls, integer_cls, abs_in, fr, dy}
+use Rattle.exact.proofs.Series.{term, from}
 use Rattle.exact.proofs.Logarithm.{root, low, low_near_root}
 use Rattle.rounding.specs.Values.{value}
 use Rattle.rounding.specs.Ranges.{Ranged, Permitted}
@@ -36,7 +35,6 @@ use Rattle.curves.proofs.Binary.{exp2_splits_lem}
 use Rattle.curves.proofs.Decimal.{Ready, ready_range}
 use Rattle.curves.proofs.Law.{finite_out, fma_law, in_range, near_whole}
 use Rattle.curves.proofs.PowerRow.{entry_from_one, scaled_row_lem}
-use Rattle.accuracy.proofs.Outcome.{Near, near_positive, nearer, close, Wide}
 use Rattle.accuracy.proofs.PowerInputs.{exp2_finite, exp2_size, exp2_away}
 use Rattle.accuracy.proofs.PowerProduct.{Coefficients}
 use Rattle.accuracy.proofs.PowerTable.{part_split, Approximates, FromRow, from_row}
@@ -66,11 +64,11 @@ coefficients = record {
   in₂ = (tt, inr (lit≤ tt, lit≤ tt));
   in₃ = (tt, inr (lit≤ tt, lit≤ tt));
   in₄ = (tt, inr (lit≤ tt, lit≤ tt));
-  size₀ = record { hi = record { le = tt }; lo = record { le = tt } };
-  size₁ = record { hi = record { le = tt }; lo = record { le = tt } };
-  size₂ = record { hi = record { le = tt }; lo = record { le = tt } };
-  size₃ = record { hi = record { le = tt }; lo = record { le = tt } };
-  size₄ = record { hi = record { le = tt }; lo = record { le = tt } };
+  size₀ = bound_is tt tt;
+  size₁ = bound_is tt tt;
+  size₂ = bound_is tt tt;
+  size₃ = bound_is tt tt;
+  size₄ = bound_is tt tt;
   low₁ = record { le = tt };
   low₃ = record { le = tt };
 }
@@ -84,12 +82,12 @@ approximates = record {
   D₂ = dy 1 40;
   D₃ = dy 1 24;
   D₄ = dy 1 30;
-  root_size = record { hi = record { le = tt }; lo = record { le = tt } };
-  near₀ = record { hi = record { le = tt }; lo = record { le = tt } };
-  near₁ = record { hi = record { le = tt }; lo = record { le = tt } };
-  near₂ = record { hi = record { le = tt }; lo = record { le = tt } };
-  near₃ = record { hi = record { le = tt }; lo = record { le = tt } };
-  near₄ = record { hi = record { le = tt }; lo = record { le = tt } };
+  root_size = bound_is tt tt;
+  near₀ = bound_is tt tt;
+  near₁ = bound_is tt tt;
+  near₂ = bound_is tt tt;
+  near₃ = bound_is tt tt;
+  near₄ = bound_is tt tt;
   all = record { le = tt };
   far = record { le = tt };
   rest = record { le = tt };
@@ -122,7 +120,7 @@ step = neg (double 0x3f90_0000_0000_0000)
 
 nums : T (finite sixty_four) × Bound (val sixty_four) (ofℕ 64) × (ofℕ 150 *q ofℕ 64 ≤q ofℕ (2 ^ 20)) × (ofℕ 150 *q ofℕ 64 +q (ofℕ 150 *q ofℕ 64 *q eps binary64 +q tiny binary64) ≤q ofℕ (2 ^ 21)) × (dy 1 1 +q ofℕ (2 ^ 21) ≤q ofℕ (2 ^ 22)) × (ofℕ (2 ^ 22) ≤q ofℕ (2 ^ 400)) × (ofℕ 150 ≤q ofℕ (2 ^ 400)) × (ofℕ 150 *q dy 1 84 ≤q dy 1 58) × (dy 1 7 ≤q dy 1 7)
 unfolding nn ◌-q◌ ◌+q◌ -q◌ ◌*q◌ val of_bits ofℕ ofℤ
-nums = (tt, record { hi = record { le = tt }; lo = record { le = tt } }, record { le = tt }, record { le = tt }, record { le = tt }, record { le = tt }, record { le = tt }, record { le = tt }, record { le = tt })
+nums = (tt, bound_is tt tt, record { le = tt }, record { le = tt }, record { le = tt }, record { le = tt }, record { le = tt }, record { le = tt }, record { le = tt })
 
 pub step_range : Ranged binary64 400 (neg (double 0x3f90_0000_0000_0000))
 unfolding neg of_bits fits

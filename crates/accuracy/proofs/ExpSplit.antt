@@ -11,7 +11,7 @@ use Rattle.exact.proofs.Ring.{con, ◌⊕◌, ◌⊖◌, ◌⊗◌, ⊝, norm}
 use Rattle.exact.proofs.Integer.{zring, x₀, x₁}
 use Rattle.exact.proofs.Rational.{ℚ, is, ◌+q◌, ◌*q◌, -q◌, ◌-q◌, ofℤ, qring}
 use Rattle.exact.proofs.Order.{nn, ◌≤q◌, q_refl, q_trans, q_neg}
-use Rattle.exact.proofs.Bound.{ofℕ, Bound, bound_more, bound_add, bound_mul, bound_self, bound_neg}
+use Rattle.exact.proofs.Bound.{ofℕ, Bound, bound_more, bound_add, bound_mul, bound_self, bound_neg, bound_is}
 use Rattle.exact.proofs.Compare.{fr, abs_in, diff_cls, dy}
 use Rattle.rounding.specs.Values.{value}
 use Rattle.rounding.specs.Ranges.{Ranged, Permitted}
@@ -83,7 +83,7 @@ reaches_size x w t = go (signed_of x w (reaches_finite x t))
 -- ---- 128 x, rounded to a whole number
 scale_numbers : T (finite (single 0x4300_0000)) × Bound (val (single 0x4300_0000)) (ofℕ 128) × (ofℕ 105 *q ofℕ 128 ≤q ofℕ (2 ^ 14)) × (ofℕ (2 ^ 14) +q (ofℕ (2 ^ 14) *q eps binary32 +q tiny binary32) ≤q ofℕ (2 ^ 15)) × (ofℕ (2 ^ 15) ≤q ofℕ (2 ^ 21)) × (ofℕ (2 ^ 15) +q dy 1 1 ≤q ofℕ (2 ^ 60)) × (ofℕ 105 ≤q ofℕ (2 ^ 60))
 unfolding nn ◌-q◌ ◌+q◌ -q◌ ◌*q◌ ofℕ ofℤ val of_bits
-scale_numbers = (tt, record { hi = record { le = tt }; lo = record { le = tt } }, record { le = tt }, record { le = tt }, record { le = tt }, record { le = tt }, record { le = tt })
+scale_numbers = (tt, bound_is tt tt, record { le = tt }, record { le = tt }, record { le = tt }, record { le = tt }, record { le = tt })
 
 scaled_size : (x : Float) → T (finite x) → Bound (val x) (ofℕ 105) → T (finite (mul binary32 x (single 0x4300_0000))) × Bound (val (mul binary32 x (single 0x4300_0000))) (ofℕ (2 ^ 15))
 unfolding norm ◌-q◌

@@ -10,7 +10,7 @@ use Rattle.exact.proofs.Ring.{con, ◌⊕◌, ◌⊖◌, ◌⊗◌, ⊝, norm}
 use Rattle.exact.proofs.Integer.{x₀, x₁, x₂, x₃, x₄, x₅, x₆, x₇, x₈}
 use Rattle.exact.proofs.Rational.{ℚ, is, ◌+q◌, ◌*q◌, -q◌, ◌-q◌, ofℤ, qring}
 use Rattle.exact.proofs.Order.{nn, nn_add, nn_mul, nn_total, ◌≤q◌, le_by, q_refl, q_trans, q_add, q_neg, q_mul}
-use Rattle.exact.proofs.Bound.{ofℕ, inv, nn_inv, absq, bound_abs, nn_le, le_nn, Bound, bound_nn, bound_more, bound_add, bound_neg, bound_mul, bound_self, mul_right}
+use Rattle.exact.proofs.Bound.{ofℕ, inv, nn_inv, absq, bound_abs, nn_le, le_nn, Bound, bound_nn, bound_more, bound_add, bound_neg, bound_mul, bound_self, mul_right, bound_is}
 use Rattle.exact.proofs.Compare.{dy, nn_dy}
 use Rattle.exact.proofs.Relative.{Rel}
 use Rattle.exact.proofs.Series.{term, S, R, from, later, tail}
@@ -64,7 +64,7 @@ in_range = ((tt, inr (lit≤ tt, lit≤ tt)), (tt, inr (lit≤ tt, lit≤ tt)), 
 
 sizes : Bound (val a₀) (dy 1 1) × Bound (val a₁) (dy 1 2) × Bound (val a₂) (dy 1 4) × Bound (val a₃) (dy 1 6) × Bound (val a₄) (dy 1 9) × Bound (val a₅) (dy 1 12) × Bound (val a₆) (dy 1 15)
 unfolding nn ◌-q◌ ◌+q◌ -q◌ val of_bits
-sizes = (record { hi = record { le = tt }; lo = record { le = tt } }, record { hi = record { le = tt }; lo = record { le = tt } }, record { hi = record { le = tt }; lo = record { le = tt } }, record { hi = record { le = tt }; lo = record { le = tt } }, record { hi = record { le = tt }; lo = record { le = tt } }, record { hi = record { le = tt }; lo = record { le = tt } }, record { hi = record { le = tt }; lo = record { le = tt } })
+sizes = (bound_is tt tt, bound_is tt tt, bound_is tt tt, bound_is tt tt, bound_is tt tt, bound_is tt tt, bound_is tt tt)
 
 -- the error of each step, and |x|
 abbrev e : ℚ
@@ -75,7 +75,7 @@ X = dy 1 4
 
 start : Stage a₆ (val a₆) (dy 1 15) e
 unfolding nn ◌-q◌ ◌+q◌ -q◌ val of_bits
-start = record { ball = record { is_finite = tt; off = record { hi = record { le = tt }; lo = record { le = tt } }; size = sizes.6 }; range = in_range.6 }
+start = record { ball = record { is_finite = tt; off = bound_is tt tt; size = sizes.6 }; range = in_range.6 }
 
 fine : Numbers X (dy 1 1) e (dy 1 1) (dy 17 5) e a₀ × Numbers X (dy 1 3) e (dy 1 2) (dy 1 1) e a₁ × Numbers X (dy 1 5) e (dy 1 4) (dy 1 3) e a₂ × Numbers X (dy 1 8) e (dy 1 6) (dy 1 5) e a₃ × Numbers X (dy 1 11) e (dy 1 9) (dy 1 8) e a₄ × Numbers X (dy 1 15) e (dy 1 12) (dy 1 11) e a₅
 unfolding nn ◌-q◌ ◌+q◌ -q◌ ◌*q◌ ofℕ ofℤ val of_bits
@@ -137,7 +137,7 @@ exact_seven t = t *q (t *q (t *q (t *q (t *q (t *q b₆ +q b₅) +q b₄) +q b�
 -- how far each coefficient is from 1 / (k + 2)!
 coefficients : Bound (val a₀ -q b₀) (dy 1 80) × Bound (val a₁ -q b₁) (dy 41 51) × Bound (val a₂ -q b₂) (dy 38 53) × Bound (val a₃ -q b₃) (dy 41 40) × Bound (val a₄ -q b₄) (dy 43 45) × Bound (val a₅ -q b₅) (dy 41 31) × Bound (val a₆ -q b₆) (dy 34 35)
 unfolding nn ◌-q◌ ◌+q◌ -q◌ ◌*q◌ val of_bits inv
-coefficients = (record { hi = record { le = tt }; lo = record { le = tt } }, record { hi = record { le = tt }; lo = record { le = tt } }, record { hi = record { le = tt }; lo = record { le = tt } }, record { hi = record { le = tt }; lo = record { le = tt } }, record { hi = record { le = tt }; lo = record { le = tt } }, record { hi = record { le = tt }; lo = record { le = tt } }, record { hi = record { le = tt }; lo = record { le = tt } })
+coefficients = (bound_is tt tt, bound_is tt tt, bound_is tt tt, bound_is tt tt, bound_is tt tt, bound_is tt tt, bound_is tt tt)
 
 S_eight : (t : ℚ) → S t 8 ≡ ofℕ 1 +q t +q t *q t *q exact_seven t
 unfolding S term norm ofℕ

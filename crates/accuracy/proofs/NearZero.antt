@@ -10,7 +10,7 @@ use Rattle.exact.proofs.Ring.{◌⊕◌, ◌⊖◌, ◌⊗◌, ⊝, norm}
 use Rattle.exact.proofs.Integer.{x₀, x₁, x₂, x₃, x₄, x₅}
 use Rattle.exact.proofs.Rational.{ℚ, ◌+q◌, ◌*q◌, -q◌, ◌-q◌, ofℤ, qring}
 use Rattle.exact.proofs.Order.{nn, ◌≤q◌, q_trans, q_add, q_mul}
-use Rattle.exact.proofs.Bound.{ofℕ, inv, ofℕ_mono, nn_le, le_nn, Bound, bound_more, bound_add, bound_mul, bound_neg, bound_turn, mul_right}
+use Rattle.exact.proofs.Bound.{ofℕ, inv, ofℕ_mono, nn_le, le_nn, Bound, bound_more, bound_add, bound_mul, bound_neg, bound_turn, mul_right, bound_is}
 use Rattle.exact.proofs.Compare.{nn_dy, dy}
 use Rattle.exact.proofs.Relative.{Rel}
 use Rattle.exact.proofs.Series.{S, from}
@@ -42,7 +42,7 @@ wide = record { le = tt }
 last_nums : ((dy 3 0 +q dy 1 50) *q dy 1 5 ≤q ofℕ (2 ^ 100)) × ((dy 3 0 +q dy 1 50) *q dy 1 5 +q dy 1 0 +q slip binary64 ((dy 3 0 +q dy 1 50) *q dy 1 5) ≤q ofℕ (2 ^ 100))
     × (slip₂ binary64 ((dy 3 0 +q dy 1 50) *q dy 1 5) ((dy 3 0 +q dy 1 50) *q dy 1 5 +q dy 1 0) +q dy 1 50 *q dy 1 5 ≤q dy 1 51) × Bound (val unit) (dy 1 0) × (dy 28 5 +q (dy 3 0 *q dy 1 5 +q dy 1 51) ≤q val unit)
 unfolding nn ◌-q◌ ◌+q◌ -q◌ ◌*q◌ ofℕ ofℤ val of_bits
-last_nums = (record { le = tt }, record { le = tt }, record { le = tt }, record { hi = record { le = tt }; lo = record { le = tt } }, record { le = tt })
+last_nums = (record { le = tt }, record { le = tt }, record { le = tt }, bound_is tt tt, record { le = tt })
 
 module _ (fma : Float → Float → Float → Float) (law : FmaLaw binary64 400 fma) (x p : Float) (P : ℚ) (fx : T (finite x)) (wx : T (fits binary32 x)) (bx : Bound (val x) (dy 1 5)) (sp : Stage p P (dy 3 0) (dy 1 50)) where
   abbrev z : Float

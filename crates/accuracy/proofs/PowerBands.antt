@@ -11,7 +11,7 @@ use Rattle.exact.proofs.Ring.{con, ◌⊕◌, ◌⊖◌, ◌⊗◌, ⊝, norm}
 use Rattle.exact.proofs.Integer.{x₀, x₁, x₂, x₃, x₄}
 use Rattle.exact.proofs.Rational.{ℚ, is, ◌+q◌, ◌*q◌, -q◌, ◌-q◌, ofℤ, qring}
 use Rattle.exact.proofs.Order.{nn, nn_add, nn_mul, ◌≤q◌, le_by, q_trans, q_add, q_neg, q_mul}
-use Rattle.exact.proofs.Bound.{ofℕ, inv, nn_ofℕ, ofℕ_mono, nn_le, le_nn, Bound, bound_more, bound_add, bound_neg, bound_mul, bound_self, bound_turn, bound_above, bound_below, mul_right}
+use Rattle.exact.proofs.Bound.{ofℕ, inv, nn_ofℕ, ofℕ_mono, nn_le, le_nn, Bound, bound_more, bound_add, bound_neg, bound_mul, bound_self, bound_turn, bound_above, bound_below, mul_right, bound_is}
 use Rattle.exact.proofs.Compare.{product_cls, neg_cls, fr, nn_fr, nn_dy, dy}
 use Rattle.exact.proofs.Relative.{Rel}
 use Rattle.exact.proofs.Series.{S, from, later}
@@ -155,7 +155,7 @@ high_side = (ofℤ (pos 1) +q dy 1 74) *q dy 1 150 *q ((ofℤ (pos 1) +q dy 1 74
 least_nums : T (nn low_side) × T (nn ((ofℤ (pos 1) +q dy 1 74) *q dy 1 150)) × (val least -q low_side +q dy 1 500 ≤q cls (times half_and_part (unit binary32 least))) × (high_side +q dy 1 500 -q val least ≤q cls (times half_and_part (unit binary32 least))) × (ofℕ 150 *q ofℕ 1 +q ofℕ 1 ≤q ofℕ 201) × (ofℕ 201 +q ofℕ 201 ≤q ofℕ 1000)
     × T (nn (ofℕ 150 *q ofℕ 1 +q ofℕ 1)) × (root binary +q dy 1 84 ≤q ofℕ 1) × (-q◌ (ofℕ 149) ≤q ofℤ (pos 0)) × Bound (ofℤ (negsuc 149)) (ofℕ 150) × T (nn (ofℤ (pos 0)))
 unfolding nn ◌-q◌ ◌+q◌ -q◌ ◌*q◌ ofℕ ofℤ unit size val low_side high_side
-least_nums = (tt, tt, record { le = tt }, record { le = tt }, record { le = tt }, record { le = tt }, tt, record { le = tt }, record { le = tt }, record { hi = record { le = tt }; lo = record { le = tt } }, tt)
+least_nums = (tt, tt, record { le = tt }, record { le = tt }, record { le = tt }, record { le = tt }, tt, record { le = tt }, record { le = tt }, bound_is tt tt, tt)
 
 powers_are : (raise binary (negsuc 149) ≡ dy 1 150) × (raise binary (pos 1) ≡ ofℕ 2)
 unfolding ofℕ ofℤ

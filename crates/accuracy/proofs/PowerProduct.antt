@@ -8,7 +8,7 @@ use Rattle.exact.proofs.Ring.{con, ◌⊕◌, ◌⊖◌, ◌⊗◌, ⊝, norm}
 use Rattle.exact.proofs.Integer.{x₀, x₁, x₂, x₃, x₄, x₅, x₆, x₇}
 use Rattle.exact.proofs.Rational.{ℚ, ◌+q◌, ◌*q◌, -q◌, ◌-q◌, ofℤ, qring}
 use Rattle.exact.proofs.Order.{nn, nn_add, ◌≤q◌, le_by, q_trans, q_mul}
-use Rattle.exact.proofs.Bound.{ofℕ, nn_le, le_nn, Bound, bound_more, bound_add, bound_mul, bound_self, mul_right}
+use Rattle.exact.proofs.Bound.{ofℕ, nn_le, le_nn, Bound, bound_more, bound_add, bound_mul, bound_self, mul_right, bound_is}
 use Rattle.exact.proofs.Compare.{nn_dy, dy}
 use Rattle.rounding.specs.Ranges.{Ranged, Permitted}
 use Rattle.rounding.proofs.Value.{val, mul_rounds}
@@ -73,7 +73,7 @@ most_nums = (record { le = tt }, record { le = tt }, record { le = tt }, record 
 
 low_nums : (dy 1 400 +q (dy 1 7 *q dy 5 1 +q dy 1 52) ≤q val unit) × (dy 1 1 +q (dy 1 7 *q dy 5 1 +q dy 1 52) ≤q val unit) × (dy 1 400 +q (dy 1 7 *q dy 3 0 +q dy 1 51) ≤q dy 1 3 +q (dy 1 7 *q dy 3 0 +q dy 1 51)) × (dy 1 400 +q (dy 1 13 *q dy 3 0 +q dy 1 50) ≤q dy 1 3) × Bound (val unit) (dy 1 0)
 unfolding nn ◌-q◌ ◌+q◌ -q◌ ◌*q◌ val of_bits
-low_nums = (record { le = tt }, record { le = tt }, record { le = tt }, record { le = tt }, record { hi = record { le = tt }; lo = record { le = tt } })
+low_nums = (record { le = tt }, record { le = tt }, record { le = tt }, record { le = tt }, bound_is tt tt)
 
 square_nums : (dy 1 7 *q dy 1 7 ≤q ofℕ (2 ^ 100)) × (dy 1 7 *q dy 1 7 *q eps binary64 +q tiny binary64 ≤q dy 1 66) × (dy 1 7 *q dy 1 7 +q dy 1 66 ≤q dy 1 13) × (dy 1 50 +q (dy 1 66 *q (dy 1 7 *q dy 1 0 +q dy 2 0) +q dy 1 51) ≤q dy 1 49) × (dy 4 0 +q dy 1 51 ≤q dy 5 0) × (dy 66 6 +q dy 1 52 ≤q dy 67 6) × (dy 5 0 +q dy 1 49 ≤q dy 6 0)
     × (dy 1 7 *q dy 1 7 *q (dy 1 7 *q dy 1 0 +q dy 2 0) +q (dy 1 7 *q dy 3 0 +q dy 3 0) ≤q dy 5 0)
@@ -96,7 +96,7 @@ unfolding norm ◌-q◌
 same a = subst (λ (u : ℚ). Bound u (dy 1 60)) (qring (con (pos 0)) (x₀ ⊖ x₀) refl (a ∷ [])) none
   where
     none : Bound (ofℤ (pos 0)) (dy 1 60)
-    none = unfold nn ◌-q◌ ◌+q◌ -q◌ ofℤ in record { hi = record { le = tt }; lo = record { le = tt } }
+    none = unfold nn ◌-q◌ ◌+q◌ -q◌ ofℤ in bound_is tt tt
 
 pub start : (k : Float) (V : ℚ) → Ranged binary64 400 k → Bound (val k) V → Stage k (val k) V (dy 1 60)
 start k V r b = record { ball = record { is_finite = ranged_finite binary64 400 k r; off = same (val k); size = b }; range = r }

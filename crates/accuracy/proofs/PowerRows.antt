@@ -6,7 +6,7 @@ use Rattle.exact.proofs.Ring.{con, ◌⊗◌, norm}
 use Rattle.exact.proofs.Integer.{x₀}
 use Rattle.exact.proofs.Rational.{ℚ, ◌+q◌, ◌*q◌, -q◌, ◌-q◌, ofℤ, qring}
 use Rattle.exact.proofs.Order.{nn, ◌≤q◌, q_trans, q_mul}
-use Rattle.exact.proofs.Bound.{ofℕ, Bound, bound_more, bound_mul, bound_self, bound_turn}
+use Rattle.exact.proofs.Bound.{ofℕ, Bound, bound_more, bound_mul, bound_self, bound_turn, bound_is}
 use Rattle.exact.proofs.Compare.{fr, nn_dy, nn_fr, fr_le, dy}
 use Rattle.exact.proofs.Series.{S}
 use Rattle.exact.proofs.Compute.{run, test}
@@ -54,7 +54,7 @@ half_step = record { le = tt }
 
 root_one : Bound (root binary) (ofℕ 1)
 unfolding nn ◌-q◌ ◌+q◌ -q◌ ofℕ ofℤ
-root_one = record { hi = record { le = tt }; lo = record { le = tt } }
+root_one = bound_is tt tt
 
 -- ---- the rule of a table with c rows
 rule : (table : List ℕ) (c : ℕ) (C : 0 < c) → T (every (power_test binary c 40 (2 ^ 52) steps one_step) 0 table) → length table ≡ c → (i : ℕ) → i < c → FromOne (get_or table i 0) → RowRule (row table i) (fr (pos i) c C *q root binary)

@@ -11,7 +11,7 @@ use Rattle.exact.proofs.Ring.{con, ◌⊕◌, ◌⊖◌, ◌⊗◌, ⊝, norm}
 use Rattle.exact.proofs.Integer.{zring, x₀, x₁, x₂, x₃, x₄, x₅, x₆}
 use Rattle.exact.proofs.Rational.{ℚ, is, ◌+q◌, ◌*q◌, -q◌, ◌-q◌, ofℤ, qring}
 use Rattle.exact.proofs.Order.{nn, nn_mul, ◌≤q◌, le_by, q_trans, q_add, q_mul}
-use Rattle.exact.proofs.Bound.{ofℕ, inv, nn_ofℕ, ofℕ_mono, nn_le, le_nn, Bound, bound_more, bound_add, bound_mul, bound_self, bound_neg, mul_right, mul_mono}
+use Rattle.exact.proofs.Bound.{ofℕ, inv, nn_ofℕ, ofℕ_mono, nn_le, le_nn, Bound, bound_more, bound_add, bound_mul, bound_self, bound_neg, mul_right, mul_mono, bound_is}
 use Rattle.exact.proofs.Compare.{fr, nn_dy, dy_mono, leq_in, dy}
 use Rattle.exact.proofs.Relative.{Rel, rel_mul}
 use Rattle.exact.proofs.Series.{term, S, R, from, later, tail}
@@ -78,7 +78,7 @@ lift t u w c d X F G bt b k = subst (λ (z : ℚ). Bound z (X *q F +q G)) (qring
 
 unit_near : Bound (val unit -q ofℕ 1) (dy 1 60)
 unfolding nn ◌-q◌ ◌+q◌ -q◌ val of_bits ofℕ ofℤ
-unit_near = record { hi = record { le = tt }; lo = record { le = tt } }
+unit_near = bound_is tt tt
 
 series_nums : dy 1 47 +q dy 1 47 ≤q dy 1 46
 unfolding nn ◌-q◌ ◌+q◌ -q◌
@@ -176,7 +176,7 @@ A = H +q ofℕ 1 +q ofℕ 1
 size_nums : (A ≤q ofℕ 201) × (H +q ofℕ 1 ≤q ofℕ 201) × (A +q dy 1 58 ≤q ofℕ 201) × (dy 33 5 +q dy 1 46 ≤q ofℕ 2) × (dy 1 500 *q ofℕ 2 +q dy 1 500 ≤q dy 1 60 *q (dy 1 160 *q dy 31 5)) × (dy 1 500 ≤q dy 1 60 *q (dy 1 160 *q dy 31 5))
     × (dy 1 160 ≤q ofℕ 1 *q dy 1 159) × (ofℕ 2 *q ofℕ (2 ^ 159) ≤q ofℕ (2 ^ 160)) × (dy 1 7 *q ofℕ 3 ≤q ofℕ 1) × (ofℕ 201 +q ofℕ 201 ≤q ofℕ 1000) × (dy 1 58 ≤q inv 1) × Bound (root binary) (ofℕ 1)
 unfolding nn ◌-q◌ ◌+q◌ -q◌ ◌*q◌ ofℕ ofℤ inv
-size_nums = (record { le = tt }, record { le = tt }, record { le = tt }, record { le = tt }, record { le = tt }, record { le = tt }, record { le = tt }, record { le = tt }, record { le = tt }, record { le = tt }, record { le = tt }, record { hi = record { le = tt }; lo = record { le = tt } })
+size_nums = (record { le = tt }, record { le = tt }, record { le = tt }, record { le = tt }, record { le = tt }, record { le = tt }, record { le = tt }, record { le = tt }, record { le = tt }, record { le = tt }, record { le = tt }, bound_is tt tt)
 
 nn_sizes : T (nn A) × T (nn (H +q ofℕ 1)) × T (nn (A +q dy 1 58))
 unfolding nn ◌+q◌ ◌*q◌ ofℕ ofℤ

@@ -57,6 +57,10 @@ pub record Bound (x d : ℚ) : Type 0 where
   pub hi : x ≤q d
   pub lo : -q◌ d ≤q x
 
+-- of known numbers, where both sides compute
+pub bound_is : {a b : ℚ} → T (nn (b -q a)) → T (nn (a -q (-q◌ b))) → Bound a b
+bound_is h l = record { hi = record { le = h }; lo = record { le = l } }
+
 pub bound_nn : {x d : ℚ} → Bound x d → T (nn d)
 unfolding norm ◌-q◌
 bound_nn {x} {d} h = nn_half d (subst (λ (z : ℚ). T (nn z)) (qring (x₁ ⊖ x₀ ⊕ (x₀ ⊖ ⊝ x₁)) (x₁ ⊕ x₁) refl (x ∷ d ∷ [])) (nn_add (d -q x) (x -q (-q◌ d)) h.hi.le h.lo.le))

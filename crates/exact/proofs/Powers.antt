@@ -6,7 +6,7 @@ use Rattle.exact.proofs.Ring.{con, ◌⊕◌, ◌⊖◌, ◌⊗◌, ⊝, norm}
 use Rattle.exact.proofs.Integer.{x₀, x₁, x₂, x₃}
 use Rattle.exact.proofs.Rational.{ℚ, is, ◌+q◌, ◌*q◌, -q◌, ◌-q◌, ofℤ, qring}
 use Rattle.exact.proofs.Order.{nn, nn_add, nn_mul, ◌≤q◌, q_refl, q_trans, q_add, q_mul}
-use Rattle.exact.proofs.Bound.{ofℕ, inv, nn_ofℕ, ofℕ_add, ofℕ_mono, nn_le, le_nn, Bound, bound_more, bound_add, bound_neg, bound_mul, bound_self, bound_turn, mul_right, mul_mono}
+use Rattle.exact.proofs.Bound.{ofℕ, inv, nn_ofℕ, ofℕ_add, ofℕ_mono, nn_le, le_nn, Bound, bound_more, bound_add, bound_neg, bound_mul, bound_self, bound_turn, mul_right, mul_mono, bound_is}
 use Rattle.exact.proofs.Compare.{bound_abs, fr, dy, nn_dy, dy_mono, dy_add}
 use Rattle.exact.specs.Logarithm.{Base, binary, decimal, radix}
 use Rattle.exact.proofs.Relative.{Rel, rel_mul, rel_more}
@@ -164,8 +164,8 @@ bits decimal = 4
 
 size_nums : (b : Base) → Bound (root b) (ofℕ (high b)) × (dy 1 (bits b) ≤q ofℕ (radix b)) × (dy 1 (bits b) ≤q inverse b) × (ofℕ (radix b) ≤q ofℕ (2 ^ bits b)) × (inverse b ≤q ofℕ (2 ^ bits b))
 unfolding nn ◌-q◌ ◌+q◌ -q◌ ofℕ ofℤ inv
-size_nums binary = (record { hi = record { le = tt }; lo = record { le = tt } }, record { le = tt }, record { le = tt }, record { le = tt }, record { le = tt })
-size_nums decimal = (record { hi = record { le = tt }; lo = record { le = tt } }, record { le = tt }, record { le = tt }, record { le = tt }, record { le = tt })
+size_nums binary = (bound_is tt tt, record { le = tt }, record { le = tt }, record { le = tt }, record { le = tt })
+size_nums decimal = (bound_is tt tt, record { le = tt }, record { le = tt }, record { le = tt }, record { le = tt })
 
 fits : (b : Base) (k : ℕ) → k ≤ most b → (k ≤ 200) × (k * bits b ≤ 240) × (k * high b ≤ 200)
 fits binary k h = (h, omega arith, omega arith)

@@ -5,7 +5,7 @@ use Rattle.exact.proofs.Ring.{con, ◌⊖◌, ◌⊗◌, norm}
 use Rattle.exact.proofs.Integer.{x₀, x₁, x₂}
 use Rattle.exact.proofs.Rational.{ℚ, is, ◌+q◌, ◌*q◌, -q◌, ◌-q◌, ofℤ, qring}
 use Rattle.exact.proofs.Order.{nn, ◌≤q◌, q_trans, q_mul}
-use Rattle.exact.proofs.Bound.{ofℕ, inv, nn_ofℕ, Bound, bound_more, bound_mul, bound_self, bound_turn, bound_via, bound_above}
+use Rattle.exact.proofs.Bound.{ofℕ, inv, nn_ofℕ, Bound, bound_more, bound_mul, bound_self, bound_turn, bound_via, bound_above, bound_is}
 use Rattle.exact.proofs.Compare.{whole_cls, leq_in, fr, fr_le, nn_fr, dy, nn_dy}
 use Rattle.exact.specs.Exponential.{within}
 use Rattle.exact.specs.Logarithm.{Base, binary, decimal}
@@ -71,8 +71,8 @@ cut_le decimal = lit≤ tt
 
 pub root_bound : (b : Base) → Bound (root b) (ofℕ 3)
 unfolding nn ◌-q◌ ◌+q◌ -q◌ ofℕ ofℤ
-root_bound binary = record { hi = record { le = tt }; lo = record { le = tt } }
-root_bound decimal = record { hi = record { le = tt }; lo = record { le = tt } }
+root_bound binary = bound_is tt tt
+root_bound decimal = bound_is tt tt
 
 -- every sum at 3 is at most 32
 three_nums : (ofℕ 3 +q ofℕ 3 ≤q ofℕ 20) × (S (ofℕ 3) 20 +q R (ofℕ 3) 20 ≤q ofℕ 32) × (dy 1 84 *q ofℕ 32 ≤q dy 1 79)

@@ -63,7 +63,6 @@ odd_of Ordering.eq q r t u n U c l s h d = elim (order r q) [
     far' zero l' h b = omega arith
     far' (suc zero) l' h b = omega arith
     far' (suc (suc w)) l' h b = absurd (omega arith)
-
 odd_of Ordering.gt q r t u n U c l s h d = elim (order r (suc q)) [
   | inl a ↦ let a' : r ≤ q = omega arith in let b : r * u ≤ q * u = mul-le-mul_right u a' in absurd (omega arith)
   | inr a ↦ elim (order (suc q) r) [

@@ -54,7 +54,6 @@ digits f (fin s (suc m) (pos k)) t w = record {
       (lt_of_lt_of_le (mul-lt-mul_of_pos_right (fit_top f s m (pos k) w) (pow_pos (low f))) (le_of_eq ((omega arith) ∙ sym (pow-add 2 (low f) (suc (emax f))))));
   how = (refl, mul_assoc (suc m) (2 ^ k) (2 ^ low f) ∙ ap (λ (z : ℕ). suc m * z) (sym (pow-add 2 k (low f))) ∙ omega arith);
 }
-
 digits f (fin s (suc m) (negsuc k)) t w = record {
   s = s;
   q = suc m;
