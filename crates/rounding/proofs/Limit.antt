@@ -18,7 +18,6 @@ use Rattle.rounding.proofs.HalfUnit.{round_value}
 use Rattle.rounding.proofs.Error.{mul_pos2}
 use Rattle.rounding.proofs.Best.{order}
 use Rattle.rounding.proofs.Narrow.{over}
-use Rattle.rounding.specs.Nearest.{Limits}
 
 -- the limit as a whole number, and the exponent of half a unit below it, in smallest values
 abbrev pub limitℕ : Format → ℕ
@@ -113,6 +112,3 @@ unfolding norm ◌-q◌
 below_limit_relative {z} {v} {L} k nk b h =
     le_by ((k *q z -q (z -q v)) +q (ofℤ (pos 1) -q k) *q (z -q L)) (nn_add _ _ b.hi.le (nn_mul (ofℤ (pos 1) -q k) (z -q L) nk h.le))
     (qring (x₁ ⊖ (con (pos 1) ⊖ x₃) ⊗ x₂) ((x₃ ⊗ x₀ ⊖ (x₀ ⊖ x₁)) ⊕ (con (pos 1) ⊖ x₃) ⊗ (x₀ ⊖ x₂)) refl (z ∷ v ∷ L ∷ k ∷ []))
-
-pub limits : Limits
-limits = (refl, refl)

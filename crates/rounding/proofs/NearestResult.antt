@@ -14,7 +14,7 @@ use Rattle.exact.proofs.Order.{◌≤q◌}
 use Rattle.exact.proofs.Bound.{ofℕ}
 use Rattle.rounding.specs.Values.{value, sign, infinite}
 use Rattle.rounding.specs.Nearest.{limit, Nearest}
-use Rattle.rounding.specs.Errors.{NearestUnique, HeldUnchanged, InfiniteExactly}
+use Rattle.rounding.specs.Errors.{NearestUnique, HeldUnchanged}
 use Rattle.exact.proofs.Compare.{fr}
 use Rattle.rounding.proofs.Fractions.{frac, frac_le_out, sign_size}
 use Rattle.rounding.proofs.Value.{val, val_value, value_is, finite_is, Rounds}
@@ -94,9 +94,6 @@ from_or_below f q = elim (decide (le_z ((limit f).num *ℤ pos (absolute q).den)
   | inl t ↦ inl (le_z_yes t)
   | inr t ↦ inr (λ h. T_not _ t h.le)
 ]
-
-pub infinite_exactly_lem : InfiniteExactly
-infinite_exactly_lem f q x n = (λ t. elim (from_or_below f q) [ inl h ↦ h | inr g ↦ absurd (finite_or_infinite x (n.otherwise g).held.is_finite t) ], n.overflows)
 
 infinite_is : (x : Float) → T (infinite x) → x ≡ inf (sign x)
 infinite_is nan t = absurd t
