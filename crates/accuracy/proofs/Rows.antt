@@ -1,5 +1,5 @@
 -- The rows of exp's two tables: each is an f64 above 0, between 2 ^ -160 and 2 ^ 160, and the series at m, or at i / 128, is within 2 ^ -52 of it, relative to it.
-use Rattle.std.proofs.Common.{◌≡◌, ℕ, suc, ◌+◌, ◌-◌, ◌*◌, ◌/◌, ◌%◌, ◌^◌, ◌<◌, ◌≤◌, Bool, false, T, leb, length, get_or, pos, ◌-ℤ◌, nat_abs, sym, refl, ap, ◌∙◌, subst, le_trans, mul-le-mul_right, mod-lt, zero-lt-suc, mul-le-mul, pow-suc, arith, lit≤, le→leb, leb→le, pow_pos, pow_mono}
+use Rattle.std.proofs.Common.{◌≡◌, ℕ, suc, ◌+◌, ◌-◌, ◌*◌, ◌/◌, ◌%◌, ◌^◌, ◌<◌, ◌≤◌, Bool, false, T, leb, length, get_or, pos, ◌-ℤ◌, nat_abs, sym, refl, ap, ◌∙◌, subst, le_trans, mul-le-mul_right, mod-lt, zero-lt-suc, mul-le-mul, pow-suc, arith, lit≤, le→leb, leb→le, pow_pos, pow_mono, ◌&&◌}
 use Rattle.std.specs.Float.{Float, binary64}
 use Rattle.std.specs.Float.Ieee.{of_bits, fits}
 use Rattle.std.specs.Float.Ieee.Exact.{HasValue}
@@ -7,6 +7,7 @@ use Rattle.std.specs.Float.Ieee.Bits.{of_bits-fits, is_false}
 use Rattle.std.specs.Float.Ieee.Scale.{finite}
 use Rattle.std.proofs.Math.Dec.{not_T}
 use Rattle.std.proofs.lemmas.Int.{ints}
+use Rattle.std.specs.Float.Ieee.Fits.{and_l, and_r}
 use Rattle.exact.proofs.Rational.{ℚ, is, ofℤ}
 use Rattle.exact.proofs.Order.{◌≤q◌}
 use Rattle.exact.proofs.Bound.{ofℕ}
@@ -14,7 +15,7 @@ use Rattle.exact.proofs.Compare.{fr, dy, leq_in}
 use Rattle.exact.proofs.Relative.{Rel}
 use Rattle.exact.proofs.Series.{S}
 use Rattle.exact.proofs.Compute.{run, test}
-use Rattle.exact.proofs.Table.{both, both_left, both_right, every, row, exp_test, exp_row, unit_rel}
+use Rattle.exact.proofs.Table.{every, row, exp_test, exp_row, unit_rel}
 use Rattle.rounding.proofs.Value.{val, finite_is, value_is}
 use Rattle.rounding.proofs.Patterns.{pattern_normal}
 use Rattle.curves.specs.Tables.{table_exp_m1, table_exp_m2}
@@ -35,7 +36,7 @@ unit_part b = omega arith
 
 -- between 2 ^ -160 and 2 ^ 160: the exponent's field lies between 863 and 1183, above the sign no bit is set
 abbrev pub inside : ℕ → Bool
-inside b = both (leb (864 * 2 ^ 52) b) (leb b (1182 * 2 ^ 52))
+inside b = leb (864 * 2 ^ 52) b && leb b (1182 * 2 ^ 52)
 
 -- what a row is
 pub record Row (t : Float) (q : ℚ) : Type 0 where
@@ -56,8 +57,8 @@ row_number g x e h = is (ap pos (row_same (2 ^ 1074) g (2 ^ x) (2 ^ e) (ap (λ (
 
 pub row_of : (b : ℕ) → T (inside b) → Row (of_bits binary64 b) (number b)
 row_of b t =
-    let h : 864 * 2 ^ 52 ≤ b = leb→le (864 * 2 ^ 52) b (both_left (leb (864 * 2 ^ 52) b) _ t) in
-    let k : b ≤ 1182 * 2 ^ 52 = leb→le b (1182 * 2 ^ 52) (both_right (leb (864 * 2 ^ 52) b) _ t) in
+    let h : 864 * 2 ^ 52 ≤ b = leb→le (864 * 2 ^ 52) b (and_l (leb (864 * 2 ^ 52) b) _ t) in
+    let k : b ≤ 1182 * 2 ^ 52 = leb→le b (1182 * 2 ^ 52) (and_r (leb (864 * 2 ^ 52) b) _ t) in
     let f = field_of b h k in
     let e = b / 2 ^ 52 in
     let x = e - 1 in

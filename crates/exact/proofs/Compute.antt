@@ -2,7 +2,7 @@
 use Rattle.std.proofs.Common.{◌≡◌, refl, sym, ap, ap₂, ◌∙◌, subst, Bool, [], ◌∷◌, ℕ, zero, suc, ◌+◌, ◌*◌, ◌≤◌, ◌<◌, zero-lt-suc, mul-pos, mul-le-mul_right, arith, T, leb, leb→le, le→leb, ℤ, pos, negsuc, ◌+ℤ◌, ◌-ℤ◌, ◌*ℤ◌, neg_ℤ, nat_abs}
 use Rattle.std.specs.Int.Signed.{le_z}
 use Rattle.std.proofs.Math.Nat.{le-suc}
-use Rattle.std.proofs.lemmas.Int.{ints}
+use Rattle.std.proofs.lemmas.Int.{ints, unsigned_abs-mul}
 use borrow.Author.Differences.{le_in}
 use std.Quotient.{cls}
 use Rattle.exact.proofs.Ring.{con, ◌⊕◌, ◌⊖◌, ◌⊗◌, ⊝, norm}
@@ -63,17 +63,6 @@ unfoldable pub test : ℕ → ℕ → ℕ → State → Bool
 test l y u s = leb (nat_abs (pos (y * s.den) -ℤ s.num *ℤ pos l) + nat_abs s.pow * l) (u * s.den)
 
 -- ---- the size of the last term
-nat_abs_neg : (z : ℤ) → nat_abs (neg_ℤ z) ≡ nat_abs z
-nat_abs_neg (pos zero) = refl
-nat_abs_neg (pos (suc n)) = refl
-nat_abs_neg (negsuc n) = refl
-
-nat_abs_mul : (x y : ℤ) → nat_abs (x *ℤ y) ≡ nat_abs x * nat_abs y
-nat_abs_mul (pos a) (pos b) = refl
-nat_abs_mul (pos a) (negsuc b) = nat_abs_neg (pos (a * suc b))
-nat_abs_mul (negsuc a) (pos b) = nat_abs_neg (pos (suc a * b))
-nat_abs_mul (negsuc a) (negsuc b) = refl
-
 run_den : (p r : ℤ) (q n : ℕ) → (run p q n).den ≡ (run r q n).den
 unfolding run
 run_den p r q zero = refl
@@ -82,7 +71,7 @@ run_den p r q (suc n) = ap (λ (d : ℕ). d * (q * suc n)) (run_den p r q n)
 run_abs : (p : ℤ) (q n : ℕ) → (run (pos (nat_abs p)) q n).pow ≡ pos (nat_abs (run p q n).pow)
 unfolding run
 run_abs p q zero = refl
-run_abs p q (suc n) = ap (λ (z : ℤ). z *ℤ pos (nat_abs p)) (run_abs p q n) ∙ ap pos (sym (nat_abs_mul (run p q n).pow p))
+run_abs p q (suc n) = ap (λ (z : ℤ). z *ℤ pos (nat_abs p)) (run_abs p q n) ∙ ap pos (sym (unsigned_abs-mul (run p q n).pow p))
 
 -- ---- the test, as two orders
 above : (x n : ℤ) (c e : ℕ) → nat_abs (x -ℤ n) + c ≤ e → T (le_z (x +ℤ pos c) (pos e +ℤ n))

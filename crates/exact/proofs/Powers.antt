@@ -1,5 +1,5 @@
 -- Whole powers by the series: where the sums at b are near β, those at k b are near β ^ k. With ln 2 and ln 10 for b, of either sign, β is 2 and 10, 1/2 and 1/10.
-use Rattle.std.proofs.Common.{◌≡◌, refl, sym, ap, ap₂, ◌∙◌, subst, [], ◌∷◌, ℕ, zero, suc, ◌+◌, ◌-◌, ◌*◌, ◌^◌, ◌≤◌, ◌<◌, le_trans, pow-suc, arith, T, lit≤, pow_pos, pow-add, pow_mono, ℤ, pos, negsuc, neg_ℤ, nat_abs}
+use Rattle.std.proofs.Common.{◌≡◌, refl, sym, ap, ap₂, ◌∙◌, subst, [], ◌∷◌, ℕ, zero, suc, ◌+◌, ◌-◌, ◌*◌, ◌^◌, ◌≤◌, ◌<◌, le_trans, pow-suc, arith, T, lit≤, pow_pos, pow-add, pow_mono, ℤ, pos, negsuc, neg_ℤ, nat_abs, zero-mul}
 use Rattle.std.proofs.Math.Nat.{le_of_suc-le, pow-zero}
 use Rattle.exact.specs.Fraction.{integer}
 use Rattle.exact.proofs.Ring.{con, ◌⊕◌, ◌⊖◌, ◌⊗◌, ⊝, norm}
@@ -23,13 +23,10 @@ unfolding ofℕ ofℤ ◌*q◌
 ofℕ_mul u v = is refl
 
 -- ---- the size of a power
-zero_mul : (w : ℕ) → 0 ≡ 0 * w
-zero_mul w = omega arith
-
 module _ (β : ℚ) (w : ℕ) where
   pow_low : dy 1 w ≤q β → (k : ℕ) → dy 1 (k * w) ≤q pow β k
   unfolding pow
-  pow_low h zero = subst (λ (m : ℕ). dy 1 m ≤q ofℕ 1) (zero_mul w) unit
+  pow_low h zero = subst (λ (m : ℕ). dy 1 m ≤q ofℕ 1) (sym (zero-mul w)) unit
     where
       unit : dy 1 0 ≤q ofℕ 1
       unit = unfold nn ◌-q◌ ◌+q◌ -q◌ ofℕ ofℤ in record { le = tt }
@@ -37,7 +34,7 @@ module _ (β : ℚ) (w : ℕ) where
 
   pow_high : T (nn β) → β ≤q ofℕ (2 ^ w) → (k : ℕ) → pow β k ≤q ofℕ (2 ^ (k * w))
   unfolding pow
-  pow_high n h zero = subst (λ (m : ℕ). ofℕ 1 ≤q ofℕ (2 ^ m)) (zero_mul w) (q_refl (ofℕ 1))
+  pow_high n h zero = subst (λ (m : ℕ). ofℕ 1 ≤q ofℕ (2 ^ m)) (sym (zero-mul w)) (q_refl (ofℕ 1))
   pow_high n h (suc k) = subst (λ (x : ℚ). pow β k *q β ≤q x) (ofℕ_mul (2 ^ (k * w)) (2 ^ w) ∙ ap ofℕ (sym (pow-add 2 (k * w) w) ∙ ap (λ (m : ℕ). 2 ^ m) (sym (omega arith)))) (mul_mono (pow_nn β n k) n (pow_high n h k) h)
 
 -- ---- k times the argument
