@@ -1,9 +1,10 @@
 -- exp whole: its bands in order, each with what is promised of its figure.
-use Rattle.std.proofs.Common.{◌≡◌, ℕ, ◌<◌, ◌≤◌, Bool, true, false, not, T, ltb, leb, ◌⊎◌, [], ◌∷◌, ℤ, pos, sym, refl, ap, ◌∙◌, subst, inl, inr, zero-le, arith, eqb→eq, ltb→lt, nltb→le, ltb-true, ltb-false, leb-true, leb-false}
+use Rattle.std.proofs.Common.{◌≡◌, ℕ, ◌<◌, ◌≤◌, Bool, true, false, not, T, ltb, leb, [], ◌∷◌, ℤ, pos, sym, refl, ap, ◌∙◌, subst, inl, inr, zero-le, arith, eqb→eq, ltb-true, ltb-false, leb-true, leb-false}
 use Rattle.std.specs.Float.{Float, nan, inf, fin, binary32}
 use Rattle.std.specs.Float.Ieee.{fits, is_nan, of_bits, to_bits}
 use Rattle.std.specs.Float.Ieee.Bits.{is_false}
 use Rattle.std.specs.Float.Ieee.Scale.{finite}
+use Rattle.std.proofs.lemmas.Bool.{cases_lt}
 use Rattle.exact.specs.Exact.{exp}
 use Rattle.exact.proofs.Ring.{⊝, norm}
 use Rattle.exact.proofs.Integer.{x₀}
@@ -19,7 +20,7 @@ use Rattle.curves.specs.Steps.{pattern, magnitude, single}
 use Rattle.curves.specs.Exp.{exp_tables_value, exp_value, ExpReaches}
 use Rattle.accuracy.specs.Figures.{Right, Agree, equal}
 use Rattle.accuracy.specs.Theorems.{CurveRight, CurveAgrees, CurveSpecial, Proved}
-use Rattle.accuracy.proofs.Inputs.{positive, negative, signed_of, numberless, decide, sized_bound, zero_pattern}
+use Rattle.accuracy.proofs.Inputs.{positive, negative, signed_of, numberless, sized_bound, zero_pattern}
 use Rattle.accuracy.proofs.ExpLimit.{last_under, first_over, Beside, exp_infinite}
 use Rattle.accuracy.proofs.ExpBands.{near_one, zero_from, lowest}
 use Rattle.accuracy.proofs.ExpTables.{tables_right, tables_agree}
@@ -71,13 +72,12 @@ module _ (x : Float) (w : T (fits binary32 x)) (t : T (finite x)) where
 
   pub beside : Beside (val x)
   beside = elim (signed_of x w t) [
-    | positive k m v ↦ go v (decide (ltb (pattern x) 0x42b1_7218))
+    | positive k m v ↦ elim (cases_lt (pattern x) 0x42b1_7218) [
+      | inl l ↦ inl (subst (λ (u : ℚ). u ≤q last_under) (sym v) (q_trans (sized_mono (pattern x) 0x42b1_7217 (omega arith)) ends.3))
+      | inr h ↦ inr (subst (λ (u : ℚ). first_over ≤q u) (sym v) (q_trans ends.4 (sized_mono 0x42b1_7218 (pattern x) h)))
+    ]
     | negative k m v ↦ inl (subst (λ (u : ℚ). u ≤q last_under) (sym v) (q_trans (q_neg (sized_mono 0 (magnitude x) (zero-le))) ends.5))
   ]
-    where
-      go : val x ≡ sized (pattern x) → T (ltb (pattern x) 0x42b1_7218) ⊎ T (not (ltb (pattern x) 0x42b1_7218)) → Beside (val x)
-      go v (inl h) = let l = ltb→lt (pattern x) 0x42b1_7218 h in inl (subst (λ (u : ℚ). u ≤q last_under) (sym v) (q_trans (sized_mono (pattern x) 0x42b1_7217 (omega arith)) ends.3))
-      go v (inr h) = inr (subst (λ (u : ℚ). first_over ≤q u) (sym v) (q_trans ends.4 (sized_mono 0x42b1_7218 (pattern x) (nltb→le (pattern x) 0x42b1_7218 h))))
 
 pub infinity : single 0x7f80_0000 ≡ inf false
 unfolding of_bits

@@ -1,5 +1,5 @@
 -- An f32 by its pattern: its value, and the order of values by the order of patterns.
-use Rattle.std.proofs.Common.{◌≡◌, ℕ, ◌+◌, ◌-◌, ◌*◌, ◌/◌, ◌%◌, ◌^◌, ◌<◌, ◌≤◌, Bool, true, false, cond, not, T, eqb, leb, ◌⊎◌, ℤ, sym, refl, ap, ◌∙◌, subst, inl, inr, eq-zero-or-pos, arith, pow_pos, bit_and}
+use Rattle.std.proofs.Common.{◌≡◌, ℕ, ◌+◌, ◌-◌, ◌*◌, ◌/◌, ◌%◌, ◌^◌, ◌<◌, ◌≤◌, Bool, true, false, cond, not, T, eqb, leb, ℤ, sym, refl, ap, ◌∙◌, subst, inl, inr, eq-zero-or-pos, arith, pow_pos, bit_and}
 use Rattle.std.specs.Float.{Float, nan, inf, fin, binary32}
 use Rattle.std.specs.Float.Ieee.{fits, is_nan, of_bits, of_fields, up, size}
 use Rattle.std.specs.Float.Ieee.Bits.{of_bits-to_bits, to_bits-lt}
@@ -63,10 +63,6 @@ unfolding is_nan
 numberless nan t = absurd t
 numberless (inf s) t = absurd t
 numberless (fin s m e) t = tt
-
-pub decide : (b : Bool) → T b ⊎ T (not b)
-decide true = inl tt
-decide false = inr tt
 
 pub sized_bound : (x : Float) → T (fits binary32 x) → T (finite x) → Bound (val x) (sized (magnitude x))
 sized_bound x w t = elim (signed_of x w t) [

@@ -4,8 +4,8 @@ use Rattle.std.specs.Float.{Float, fin, binary32}
 use Rattle.std.specs.Float.Ieee.{fits, is_nan, of_bits, size}
 use Rattle.std.specs.Float.Ieee.Bits.{is_false}
 use Rattle.std.specs.Float.Ieee.Scale.{finite}
+use Rattle.std.proofs.lemmas.Bool.{cases_lt, lt-leb}
 use std.Quotient.{cls}
-use borrow.Author.Tests.{lt-leb}
 use Rattle.exact.specs.Fraction.{Fraction, times}
 use Rattle.exact.specs.Exponential.{at_least, at_most}
 use Rattle.exact.specs.Logarithm.{decimal}
@@ -29,7 +29,6 @@ use Rattle.rounding.proofs.Gaps.{Value}
 use Rattle.rounding.proofs.Patterns.{sized}
 use Rattle.rounding.proofs.TwoFigures.{middle_is}
 use Rattle.arithmetic.specs.Arithmetic.{Arithmetic}
-use Rattle.arithmetic.specs.Signs.{order}
 use Rattle.curves.specs.Steps.{pattern, magnitude, single}
 use Rattle.curves.specs.Exp10.{exp10_near_one, exp10_value}
 use Rattle.accuracy.specs.Figures.{half_and_part, Right, NearestTo}
@@ -218,7 +217,7 @@ module _ (x : Float) (w : T (fits binary32 x)) (f : T (finite x)) (m : magnitude
     falls_below : val x ≤q -q◌ (dy 0xde5bd9 50) → exp10_near_one x ≡ fin false 0xffffff (negsuc 23) → Choice
 
   pub choice : Choice
-  choice = elim (order (pattern x) 0xb25e_5bd9) [
+  choice = elim (cases_lt (pattern x) 0xb25e_5bd9) [
     | inl l ↦ stays_one (q_trans pattern_nums.2 (down_to x w f 0x325e_5bd8 (λ s. omega arith))) (simp (lt-leb 0xb25e_5bd9 (pattern x) l) singles.0)
     | inr l ↦ falls_below (q_trans (down_from x w f 0x325e_5bd9 (omega arith)) pattern_nums.3) (simp (le-leb 0xb25e_5bd9 (pattern x) l, le-leb (pattern x) 0xb280_0000 no_further) singles.1)
   ]

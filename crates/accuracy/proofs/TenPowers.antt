@@ -5,6 +5,7 @@ use Rattle.std.specs.Float.Ieee.{fits, size}
 use Rattle.std.specs.Float.Ieee.Digits.{size-lt}
 use Rattle.std.specs.Float.Ieee.Exact.{HasValue}
 use Rattle.std.specs.Float.Ieee.Scale.{finite}
+use Rattle.std.proofs.lemmas.Bool.{cases_lt}
 use std.Quotient.{cls}
 use Rattle.exact.specs.Fraction.{Same, whole, absolute, apart, ◌≼◌}
 use Rattle.exact.proofs.Ring.{◌⊕◌, ◌⊗◌, norm}
@@ -23,7 +24,7 @@ use Rattle.rounding.proofs.Distance.{same_number, apart_cls, abs_cls, abs_least,
 use Rattle.rounding.proofs.Held.{digits}
 use Rattle.rounding.proofs.Figure.{figure_nearest, figure_finite}
 use Rattle.rounding.proofs.Gaps.{Value, next_value}
-use Rattle.arithmetic.specs.Signs.{order, dist}
+use Rattle.arithmetic.specs.Signs.{dist}
 use Rattle.curves.proofs.Checked as Checked
 
 -- ---- 10 ^ n as an f32: 5 ^ n times 2 ^ n
@@ -55,9 +56,9 @@ few_units : (g : ℕ) → g ≤ 2 ^ 24 * unit_of binary32 g
 few_units g = le_trans (le_of_lt (size-lt g)) (le_trans (pow_mono {i = size g} {j = 24 + (size g - 24)} (omega arith)) (le_of_eq (pow-add 2 24 (size g - 24))))
 
 pub one_value : (g T : ℕ) → Value binary32 g → Value binary32 T → dist g T * 2 ^ 40 ≤ T → g ≡ T
-one_value g T vg vT h = elim (order g T) [
+one_value g T vg vT h = elim (cases_lt g T) [
   | inl l ↦ absurd (below g T (unit_of binary32 g) (pow_pos (size g - 24)) (next_value binary32 g T vg vT l) (few_units g) h)
-  | inr l ↦ elim (order T g) [
+  | inr l ↦ elim (cases_lt T g) [
     | inl m ↦ absurd (above g T (unit_of binary32 T) (pow_pos (size T - 24)) (next_value binary32 T g vT vg m) (few_units T) h)
     | inr m ↦ omega arith
   ]

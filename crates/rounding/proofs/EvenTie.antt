@@ -1,5 +1,5 @@
 -- Where another value of the format is as near as the result of `round`, the significand of the result is even. In whole numbers.
-use Rattle.std.proofs.Common.{◌≡◌, ℕ, zero, suc, ◌+◌, ◌-◌, ◌*◌, ◌/◌, ◌%◌, ◌^◌, ◌<◌, ◌≤◌, Bool, true, false, cond, ℤ, sym, refl, ap, ◌∙◌, subst, inl, inr, le_trans, le_of_eq, le_refl, mul-le-mul_right, mod-lt, mul_assoc, mul_comm, eq-zero-or-pos, le_antisymm, mul-lt-mul_of_pos_right, mul-pos, pow-suc, div-add-mod', mul-one, not-le_of_lt, le_of_mul-le-mul_right, mul-div_cancel, mul_left_comm, arith, pow_pos, pow_mono, pow-add}
+use Rattle.std.proofs.Common.{◌≡◌, ℕ, zero, suc, ◌+◌, ◌-◌, ◌*◌, ◌/◌, ◌%◌, ◌^◌, ◌<◌, ◌≤◌, Bool, true, false, cond, ℤ, sym, refl, ap, ◌∙◌, subst, inl, inr, le_trans, le_of_eq, le_refl, mul-le-mul_right, mod-lt, mul_assoc, mul_comm, eq-zero-or-pos, le_antisymm, mul-lt-mul_of_pos_right, mul-pos, pow-suc, div-add-mod', mul-one, le_of_mul-le-mul_right, mul-div_cancel, mul_left_comm, arith, pow_pos, pow-add}
 use Rattle.std.specs.Float.{Float, nan, inf, fin, Format, binary32, binary64}
 use Rattle.std.specs.Float.Ieee.{prec, low, hid, top, up, down, size, nearest, to_bits}
 use Rattle.std.specs.Float.Ieee.Digits.{size-le}
@@ -11,24 +11,26 @@ use Rattle.std.specs.Float.Ieee.Scale.{grid}
 use Rattle.std.proofs.Math.Arith.{lt_of_le-ne}
 use Rattle.std.proofs.Math.Pow.{pow-lt}
 use Rattle.std.proofs.Math.Nat.{mul-mod_left}
+use Rattle.std.proofs.lemmas.Bool.{cases_lt}
 use Prim.Native.Nat.{compare, Ordering}
 use Rattle.rounding.proofs.HalfUnit.{Cmp, cmp, unit_small}
-use Rattle.rounding.proofs.Best.{dist, order, closest_best}
+use Rattle.rounding.proofs.Best.{dist, closest_best}
 use Rattle.rounding.proofs.Narrow.{unit_figure, size_gt, kept_le}
+use Rattle.rounding.proofs.PowersOfTwo.{split_times, few_zeros, pow_even, pow_le}
 
 -- ---- another multiple of u that is as near to n as the closest one: then the closest one is even
 even_of : (o : Ordering) (q r t u n : ℕ) → Cmp o (t * 2) u → t < u → q * u + t ≡ n → dist (r * u) n ≤ dist (nearest q o * u) n → (r ≡ nearest q o → ⊥) → nearest q o % 2 ≡ 0
-even_of Ordering.lt q r t u n c l s h d = elim (order r q) [
+even_of Ordering.lt q r t u n c l s h d = elim (cases_lt r q) [
   | inl a ↦ let b : suc r * u ≤ q * u = mul-le-mul_right u a in absurd (omega arith)
-  | inr a ↦ elim (order q r) [
+  | inr a ↦ elim (cases_lt q r) [
     | inl a' ↦ let b : suc q * u ≤ r * u = mul-le-mul_right u a' in absurd (omega arith)
     | inr a' ↦ absurd (d (le_antisymm a' a))
   ]
 ]
 even_of Ordering.eq q r t u n c l s h d = omega arith
-even_of Ordering.gt q r t u n c l s h d = elim (order r (suc q)) [
+even_of Ordering.gt q r t u n c l s h d = elim (cases_lt r (suc q)) [
   | inl a ↦ let a' : r ≤ q = omega arith in let b : r * u ≤ q * u = mul-le-mul_right u a' in absurd (omega arith)
-  | inr a ↦ elim (order (suc q) r) [
+  | inr a ↦ elim (cases_lt (suc q) r) [
     | inl a' ↦ let b : suc (suc q) * u ≤ r * u = mul-le-mul_right u a' in absurd (omega arith)
     | inr a' ↦ absurd (d (le_antisymm a' a))
   ]
@@ -39,16 +41,16 @@ closest_even n u r U = even_of (compare (n % u * 2) u) (n / u) r (n % u) u n (cm
 
 -- and the other one is odd
 odd_of : (o : Ordering) (q r t u n : ℕ) → 0 < u → Cmp o (t * 2) u → t < u → q * u + t ≡ n → dist (r * u) n ≤ dist (nearest q o * u) n → (r ≡ nearest q o → ⊥) → r % 2 ≡ 1
-odd_of Ordering.lt q r t u n U c l s h d = elim (order r q) [
+odd_of Ordering.lt q r t u n U c l s h d = elim (cases_lt r q) [
   | inl a ↦ let b : suc r * u ≤ q * u = mul-le-mul_right u a in absurd (omega arith)
-  | inr a ↦ elim (order q r) [
+  | inr a ↦ elim (cases_lt q r) [
     | inl a' ↦ let b : suc q * u ≤ r * u = mul-le-mul_right u a' in absurd (omega arith)
     | inr a' ↦ absurd (d (le_antisymm a' a))
   ]
 ]
-odd_of Ordering.eq q r t u n U c l s h d = elim (order r q) [
+odd_of Ordering.eq q r t u n U c l s h d = elim (cases_lt r q) [
   | inl a ↦ let b : suc r * u ≤ q * u = mul-le-mul_right u a in absurd (far (q % 2) (omega arith) h b)
-  | inr a ↦ elim (order (suc q) r) [
+  | inr a ↦ elim (cases_lt (suc q) r) [
     | inl a' ↦ let b : suc (suc q) * u ≤ r * u = mul-le-mul_right u a' in absurd (far' (q % 2) (omega arith) h b)
     | inr a' ↦ omega arith
   ]
@@ -63,9 +65,9 @@ odd_of Ordering.eq q r t u n U c l s h d = elim (order r q) [
     far' zero l' h b = omega arith
     far' (suc zero) l' h b = omega arith
     far' (suc (suc w)) l' h b = absurd (omega arith)
-odd_of Ordering.gt q r t u n U c l s h d = elim (order r (suc q)) [
+odd_of Ordering.gt q r t u n U c l s h d = elim (cases_lt r (suc q)) [
   | inl a ↦ let a' : r ≤ q = omega arith in let b : r * u ≤ q * u = mul-le-mul_right u a' in absurd (omega arith)
-  | inr a ↦ elim (order (suc q) r) [
+  | inr a ↦ elim (cases_lt (suc q) r) [
     | inl a' ↦ let b : suc (suc q) * u ≤ r * u = mul-le-mul_right u a' in absurd (omega arith)
     | inr a' ↦ absurd (d (le_antisymm a' a))
   ]
@@ -94,21 +96,21 @@ module _ (f : Format) (a c q j : ℕ) (C : 0 < c) (few : q ≤ 2 ^ prec f) (near
 
   -- with fewer zeros than the unit it would be the least value of p digits, which is even
   power_even : 2 ^ (prec f - 1) % 2 ≡ 0
-  power_even = ap (λ (z : ℕ). z % 2) (ap (λ (z : ℕ). 2 ^ z) {x = prec f - 1} {y = prec f - 2 + 1} (let h = two f in omega arith) ∙ pow-add 2 (prec f - 2) 1) ∙ mul-mod_left (2 ^ (prec f - 2)) 2
+  power_even = pow_even (prec f - 1) (omega (arith, two f))
 
   -- the number kept is even, and the other value is an odd number of the same units
   tie_digits : (kept (prec f) (a * 2 ^ low f) c % 2 ≡ 0) × (q % 2 ≡ 1) × (j ≡ drop (prec f) (a * 2 ^ low f) c)
-  tie_digits = elim (order j k) [
+  tie_digits = elim (cases_lt j k) [
     | inl l ↦
         let P : 0 < prec f = two-le_pos (prec f) (two f) in
         let s : 2 ^ k * 2 ^ (prec f - 1) * c ≤ n = unit_small f a c C (omega arith) in
         let b = 2 ^ (prec f - 1) * 2 ^ k in
         let s' : b * c ≤ n = subst (λ (z : ℕ). z * c ≤ n) (mul_comm (2 ^ k) (2 ^ (prec f - 1))) s in
-        let w : q * 2 ^ j ≤ b = le_trans (mul-le-mul_right (2 ^ j) few) (le_trans (le_of_eq (sym (pow-add 2 (prec f) j))) (le_trans (pow_mono (omega arith)) (le_of_eq (pow-add 2 (prec f - 1) k)))) in
+        let w : q * 2 ^ j ≤ b = few_zeros (prec f) q j k (two-le_pos (prec f) (two f)) few l in
         let w' : q * 2 ^ j * c ≤ b * c = mul-le-mul_right c w in
         absurd (omega (arith, power_even, (multiple (2 ^ (prec f - 1)) (omega arith) (λ e. other (le_antisymm (subst (λ (z : ℕ). q * 2 ^ j ≤ z) e w) (le_of_mul-le-mul_right (back (q * 2 ^ j * c) (b * c) (grid f a c * c) n w' s' (ap (λ (z : ℕ). z * c) e) near) C)))).1))
     | inr g ↦
-        let e : q * 2 ^ (j - k) * 2 ^ k ≡ q * 2 ^ j = mul_assoc q (2 ^ (j - k)) (2 ^ k) ∙ ap (λ (x : ℕ). q * x) (sym (pow-add 2 (j - k) k) ∙ ap (λ (x : ℕ). 2 ^ x) {x = j - k + k} {y = j} (omega arith)) in
+        let e : q * 2 ^ (j - k) * 2 ^ k ≡ q * 2 ^ j = sym (split_times q k j g) in
         let b = multiple (q * 2 ^ (j - k)) (subst (λ (z : ℕ). dist (z * c) n ≤ dist (grid f a c * c) n) (sym e) near) (λ d. other (sym e ∙ d)) in
         let z : j - k ≡ 0 = no_zeros (j - k) b.1 in
         (b.0, sym (ap (λ (x : ℕ). q * 2 ^ x % 2) z ∙ ap (λ (x : ℕ). x % 2) (mul-one q)) ∙ b.1, le_antisymm (none_left z) g)
@@ -129,7 +131,7 @@ module _ (f : Format) (a c q j : ℕ) (C : 0 < c) (few : q ≤ 2 ^ prec f) (near
 
   -- so the significand of the other value is odd
   reached : 0 < k → 2 ^ (prec f - 1) ≤ q
-  reached K = elim (order q (2 ^ (prec f - 1))) [
+  reached K = elim (cases_lt q (2 ^ (prec f - 1))) [
     | inl l ↦
         let P : 0 < prec f = two-le_pos (prec f) (two f) in
         let u = c * 2 ^ k in
@@ -153,7 +155,7 @@ module _ (f : Format) (a c q j : ℕ) (C : 0 < c) (few : q ≤ 2 ^ prec f) (near
       under = lt_of_le-ne few (λ e. (omega (arith, ap (λ (z : ℕ). z % 2) e ∙ even_power, tie_digits.1)))
         where
           even_power : 2 ^ prec f % 2 ≡ 0
-          even_power = ap (λ (z : ℕ). z % 2) (ap (λ (z : ℕ). 2 ^ z) {x = prec f} {y = prec f - 1 + 1} (let h = two f in omega arith) ∙ pow-add 2 (prec f - 1) 1) ∙ mul-mod_left (2 ^ (prec f - 1)) 2
+          even_power = pow_even (prec f) (two-le_pos (prec f) (two f))
 
       size_is : size (q * 2 ^ j) - prec f ≡ k
       size_is =
@@ -164,11 +166,8 @@ module _ (f : Format) (a c q j : ℕ) (C : 0 < c) (few : q ≤ 2 ^ prec f) (near
           ])
 
 -- ---- an even number kept is an even significand of the result
-pow_le : (i j : ℕ) → 2 ^ i ≤ 2 ^ j → i ≤ j
-pow_le i j h = elim (order j i) [ inl l ↦ absurd (not-le_of_lt (pow-lt l) h) | inr g ↦ g ]
-
 pub even_digits : (f : Format) (a c : ℕ) → 0 < c → kept (prec f) (a * 2 ^ low f) c % 2 ≡ 0 → grid f a c / 2 ^ (size (grid f a c) - prec f) % 2 ≡ 0
-even_digits f a c C e = elim (order (kept p n c) (2 ^ p)) [
+even_digits f a c C e = elim (cases_lt (kept p n c) (2 ^ p)) [
   | inl l ↦
       let z : size g - p ≡ k = le_antisymm (small (size-le g (p + k) (subst (λ (x : ℕ). g < x) (sym (pow-add 2 p k)) (mul-lt-mul_of_pos_right l (pow_pos k))))) (pow_le k (size g - p) (unit_figure f a c C)) in
       ap (λ (x : ℕ). g / 2 ^ x % 2) z ∙ ap (λ (x : ℕ). x % 2) (mul-div_cancel (kept p n c) (pow_pos k)) ∙ e

@@ -1,17 +1,18 @@
 -- The gaps between values of a format: at least a unit of the lower one. In whole numbers of smallest values.
-use Rattle.std.proofs.Common.{◌≡◌, ℕ, suc, ◌+◌, ◌-◌, ◌*◌, ◌^◌, ◌<◌, ◌≤◌, Bool, true, false, not, T, ℤ, pos, ◌+ℤ◌, neg_ℤ, sym, refl, ap, ◌∙◌, subst, inl, inr, le_trans, le_of_eq, lt_of_le_of_lt, le_of_lt, lt_irrefl, mul-le-mul_right, mul_assoc, eq-zero-or-pos, le_antisymm, lt_of_mul-lt-mul_right, zero-mul, not-le_of_lt, arith, pow_mono, pow-add}
+use Rattle.std.proofs.Common.{◌≡◌, ℕ, suc, ◌+◌, ◌-◌, ◌*◌, ◌^◌, ◌<◌, ◌≤◌, Bool, true, false, not, T, ℤ, pos, ◌+ℤ◌, neg_ℤ, sym, refl, ap, ◌∙◌, subst, inl, inr, le_trans, le_of_eq, lt_of_le_of_lt, le_of_lt, lt_irrefl, mul-le-mul_right, eq-zero-or-pos, le_antisymm, lt_of_mul-lt-mul_right, zero-mul, not-le_of_lt, arith, pow_mono, pow-add}
 use Rattle.std.specs.Int.Signed.{le_z}
 use Rattle.std.specs.Float.{Format}
 use Rattle.std.specs.Float.Ieee.{prec, low, size}
 use Rattle.std.specs.Float.Ieee.Digits.{size-lt, size-le, size_reaches}
-use Rattle.std.specs.Float.Ieee.Fits.{two}
+use Rattle.std.specs.Float.Ieee.Fits.{two, two-le_pos}
 use Rattle.std.specs.Float.Ieee.Order.{drop, kept}
 use Rattle.std.specs.Float.Ieee.Scale.{grid}
 use Rattle.std.proofs.lemmas.Int.{ints}
+use Rattle.std.proofs.lemmas.Bool.{cases_lt}
 use borrow.Author.Differences.{le_in}
 use Rattle.rounding.specs.Values.{signed}
-use Rattle.rounding.proofs.Best.{order}
 use Rattle.rounding.proofs.Narrow.{unit_of, kept_le}
+use Rattle.rounding.proofs.PowersOfTwo.{split_times, few_zeros}
 
 -- ---- values of the format: q * 2 ^ j smallest ones, with q at most 2 ^ prec
 pub record Value (f : Format) (g : ℕ) : Type 0 where
@@ -25,13 +26,10 @@ grid_value f a c = record { q = kept (prec f) (a * 2 ^ low f) c; j = drop (prec 
 
 -- a value of fewer zeros than the unit of g is at most the least number with as many digits as g
 coarse : (f : Format) (g q j : ℕ) → q ≤ 2 ^ prec f → j < size g - prec f → q * 2 ^ j ≤ 2 ^ (prec f - 1 + (size g - prec f))
-coarse f g q j few l = le_trans (mul-le-mul_right (2 ^ j) few) (le_trans (le_of_eq (sym (pow-add 2 (prec f) j))) (let P = two f in let h : prec f + j ≤ prec f - 1 + (size g - prec f) = omega arith in pow_mono h))
+coarse f g q j few l = le_trans (few_zeros (prec f) q j (size g - prec f) (two-le_pos (prec f) (two f)) few l) (le_of_eq (sym (pow-add 2 (prec f - 1) (size g - prec f))))
 
 reached : (f : Format) (g : ℕ) → 0 < size g - prec f → 2 ^ (prec f - 1 + (size g - prec f)) ≤ g
 reached f g h = let P = two f in size_reaches g (prec f - 1 + (size g - prec f)) (omega arith)
-
-shift : (q j i : ℕ) → i ≤ j → q * 2 ^ j ≡ q * 2 ^ (j - i) * 2 ^ i
-shift q j i h = ap (λ (z : ℕ). q * z) (ap (λ (z : ℕ). 2 ^ z) {x = j} {y = j - i + i} (omega arith) ∙ pow-add 2 (j - i) i) ∙ sym (mul_assoc q (2 ^ (j - i)) (2 ^ i))
 
 record Times (g u : ℕ) : Type 0 where
   by : ℕ
@@ -39,20 +37,20 @@ record Times (g u : ℕ) : Type 0 where
 
 -- a value is a whole number of its units
 whole_units : (f : Format) (g : ℕ) → Value f g → Times g (unit_of f g)
-whole_units f g v = elim (order v.j (size g - prec f)) [
+whole_units f g v = elim (cases_lt v.j (size g - prec f)) [
   | inl l ↦
       let a : g ≤ 2 ^ (prec f - 1 + (size g - prec f)) = le_trans (le_of_eq v.is_value) (coarse f g v.q v.j v.few l) in
       record { by = 2 ^ (prec f - 1); is_times = le_antisymm a (reached f g (omega arith)) ∙ pow-add 2 (prec f - 1) (size g - prec f) }
-  | inr m ↦ record { by = v.q * 2 ^ (v.j - (size g - prec f)); is_times = v.is_value ∙ shift v.q v.j (size g - prec f) m }
+  | inr m ↦ record { by = v.q * 2 ^ (v.j - (size g - prec f)); is_times = v.is_value ∙ split_times v.q (size g - prec f) v.j m }
 ]
 
 -- the next value up is at least one unit higher
 pub next_value : (f : Format) (g w : ℕ) → Value f g → Value f w → g < w → g + unit_of f g ≤ w
-next_value f g w vg vw h = elim (order vw.j (size g - prec f)) [
+next_value f g w vg vw h = elim (cases_lt vw.j (size g - prec f)) [
   | inl l ↦
       let a : w ≤ 2 ^ (prec f - 1 + (size g - prec f)) = le_trans (le_of_eq vw.is_value) (coarse f g vw.q vw.j vw.few l) in
       absurd (not-le_of_lt h (le_trans a (reached f g (omega arith))))
-  | inr m ↦ step (whole_units f g vg) (vw.q * 2 ^ (vw.j - (size g - prec f))) (vw.is_value ∙ shift vw.q vw.j (size g - prec f) m)
+  | inr m ↦ step (whole_units f g vg) (vw.q * 2 ^ (vw.j - (size g - prec f))) (vw.is_value ∙ split_times vw.q (size g - prec f) vw.j m)
 ]
   where
     step : Times g (unit_of f g) → (r : ℕ) → w ≡ r * unit_of f g → g + unit_of f g ≤ w

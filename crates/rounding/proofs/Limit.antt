@@ -8,6 +8,7 @@ use Rattle.std.specs.Float.Ieee.Exact.{HasValue}
 use Rattle.std.specs.Float.Ieee.Order.{round_mono}
 use Rattle.std.specs.Float.Ieee.Scale.{grid, overflow}
 use Rattle.std.proofs.Math.Dec.{not_T}
+use Rattle.std.proofs.lemmas.Bool.{cases_lt}
 use Rattle.exact.proofs.Ring.{con, ◌⊕◌, ◌⊖◌, ◌⊗◌, ⊝, norm}
 use Rattle.exact.proofs.Integer.{x₀, x₁, x₂, x₃}
 use Rattle.exact.proofs.Rational.{ℚ, ◌+q◌, ◌*q◌, -q◌, ◌-q◌, ofℤ, qring}
@@ -16,7 +17,6 @@ use Rattle.exact.proofs.Bound.{ofℕ, Bound, bound_more}
 use Rattle.rounding.proofs.Fractions.{frac, frac_le, frac_le_out}
 use Rattle.rounding.proofs.HalfUnit.{round_value}
 use Rattle.rounding.proofs.Error.{mul_pos2}
-use Rattle.rounding.proofs.Best.{order}
 use Rattle.rounding.proofs.Narrow.{over}
 
 -- the limit as a whole number, and the exponent of half a unit below it, in smallest values
@@ -71,7 +71,7 @@ above_infinity (inf true) t = absurd t
 above_infinity (fin s m e) t = absurd t
 
 pub infinite_from : (f : Format) (a c : ℕ) → 0 < c → limitℕ f * c ≤ a → overflow f ≤ grid f a c
-infinite_from f a c C h = elim (order (grid f a c) (overflow f)) [
+infinite_from f a c C h = elim (cases_lt (grid f a c) (overflow f)) [
   | inl l ↦
       absurd (subst (λ (x : Float). HasValue x false (grid f a c) (2 ^ low f))
       (above_infinity (round f false a c) (subst (λ (x : Float). T (le x (round f false a c))) (top_infinite f) (round_mono f (limitℕ f) 1 a c (zero-lt-suc 0) C (le_trans h (le_of_eq (sym (mul-one a)))))))

@@ -1,11 +1,12 @@
 -- Multiples of 2 ^ -k, and what is 0 or at least 2 ^ -k in size, through products, sums and roundings.
-use Rattle.std.proofs.Common.{◌≡◌, ℕ, suc, ◌+◌, ◌-◌, ◌*◌, ◌^◌, ◌<◌, ◌≤◌, Bool, true, false, cond, T, ltb, ◌⊎◌, [], ◌∷◌, ℤ, pos, negsuc, ◌+ℤ◌, ◌*ℤ◌, sym, refl, ap, ◌∙◌, subst, ap₂, inl, inr, le_trans, le_of_eq, mul-le-mul_right, zero-lt-suc, mul_assoc, mul_comm, eq-zero-or-pos, mul-le-mul, mul-le-mul_left, mul-pos, le_of_mul-le-mul_right, mul_left_comm, arith, ltb→lt, pow_pos, pow_mono, pow-add}
+use Rattle.std.proofs.Common.{◌≡◌, ℕ, suc, ◌+◌, ◌-◌, ◌*◌, ◌^◌, ◌<◌, ◌≤◌, Bool, true, false, cond, T, ltb, ◌⊎◌, [], ◌∷◌, ℤ, pos, negsuc, ◌+ℤ◌, ◌*ℤ◌, sym, refl, ap, ◌∙◌, subst, ap₂, inl, inr, le_trans, le_of_eq, mul-le-mul_right, zero-lt-suc, mul_assoc, mul_comm, eq-zero-or-pos, mul-le-mul, mul-le-mul_left, mul-pos, le_of_mul-le-mul_right, mul_left_comm, arith, ltb→lt, pow_pos, pow_mono, pow-add, le_of_lt}
 use Rattle.std.specs.Float.{Float, nan, inf, fin, Format}
 use Rattle.std.specs.Float.Ieee.{prec, low, up, down, unlike, odd, units, round, mul}
 use Rattle.std.specs.Float.Ieee.Fits.{down_pos, round_is}
 use Rattle.std.specs.Float.Ieee.Order.{drop, kept}
 use Rattle.std.specs.Float.Ieee.Scale.{grid, overflow, finite}
 use Rattle.std.proofs.Math.Nat.{eq_of_mul-eq-mul_right}
+use Rattle.std.proofs.lemmas.Bool.{cases_lt}
 use Rattle.exact.proofs.Ring.{con, ◌⊕◌, ◌⊗◌, ⊝, norm}
 use Rattle.exact.proofs.Integer.{zring, x₀, x₁, x₂}
 use Rattle.exact.proofs.Rational.{ℚ, is, ◌+q◌, ◌*q◌, -q◌, ofℤ, qring}
@@ -17,8 +18,9 @@ use Rattle.exact.proofs.Compare.{dy, fr, fr_den}
 use Rattle.rounding.proofs.Fractions.{frac, frac_mul, frac_same, frac_le_out, frac_neg, nn_frac, not_above, size_out}
 use Rattle.rounding.proofs.Value.{val, value_is, Rounds, mul_rounds, add_rounds, fused_rounds}
 use Rattle.rounding.proofs.HalfUnit.{round_value}
-use Rattle.rounding.proofs.Best.{dist, order, closest_best}
+use Rattle.rounding.proofs.Best.{dist, closest_best}
 use Rattle.rounding.proofs.Narrow.{under}
+use Rattle.rounding.proofs.PowersOfTwo.{split_pow, split_times}
 
 -- ---- multiples of 2 ^ -k
 pub record Mult (k : ℕ) (q : ℚ) : Type 0 where
@@ -170,8 +172,8 @@ pub record PowerTimes (t g : ℕ) : Type 0 where
   pub how : g ≡ m * 2 ^ t
 
 pub grid_times : (f : Format) (a c N t : ℕ) → 0 < c → a * 2 ^ low f ≡ N * 2 ^ t * c → PowerTimes t (grid f a c)
-grid_times f a c N t C e = elim (order t d) [
-  | inl l ↦ record { m = kept (prec f) n c * 2 ^ (d - t); how = ap (λ (u : ℕ). kept (prec f) n c * u) (ap (λ (z : ℕ). 2 ^ z) {x = d} {y = d - t + t} (omega arith) ∙ pow-add 2 (d - t) t) ∙ sym (mul_assoc (kept (prec f) n c) (2 ^ (d - t)) (2 ^ t)) }
+grid_times f a c N t C e = elim (cases_lt t d) [
+  | inl l ↦ record { m = kept (prec f) n c * 2 ^ (d - t); how = split_times (kept (prec f) n c) t d (le_of_lt l) }
   | inr g ↦ record { m = N; how = still g }
 ]
   where
@@ -181,9 +183,6 @@ grid_times f a c N t C e = elim (order t d) [
     d : ℕ
     d = drop (prec f) (a * 2 ^ low f) c
 
-    split : d ≤ t → 2 ^ t ≡ 2 ^ (t - d) * 2 ^ d
-    split g = ap (λ (z : ℕ). 2 ^ z) {x = t} {y = t - d + d} (omega arith) ∙ pow-add 2 (t - d) d
-
     zero_dist : (x y z : ℕ) → dist x y ≤ dist z y → z ≡ y → x ≡ y
     zero_dist x y z h k = omega arith
 
@@ -191,7 +190,7 @@ grid_times f a c N t C e = elim (order t d) [
     still g =
         let r = N * 2 ^ (t - d) in
         let v : r * (c * 2 ^ d) ≡ N * (2 ^ (t - d) * 2 ^ d) * c = simp (mul_assoc, mul_comm, mul_left_comm) in
-        let w : r * (c * 2 ^ d) ≡ a * 2 ^ low f = v ∙ ap (λ (u : ℕ). N * u * c) (sym (split g)) ∙ sym e in
+        let w : r * (c * 2 ^ d) ≡ a * 2 ^ low f = v ∙ ap (λ (u : ℕ). N * u * c) (sym (split_pow d t g)) ∙ sym e in
         let b : kept (prec f) (a * 2 ^ low f) c * (c * 2 ^ d) ≡ a * 2 ^ low f = zero_dist _ _ (r * (c * 2 ^ d)) (closest_best (a * 2 ^ low f) (c * 2 ^ d) r (mul-pos C (pow_pos d))) w in
         let s : grid f a c * c ≡ kept (prec f) (a * 2 ^ low f) c * (c * 2 ^ d) = simp (mul_assoc, mul_comm, mul_left_comm) in
         eq_of_mul-eq-mul_right c C (grid f a c) (N * 2 ^ t) (s ∙ b ∙ e)
@@ -207,9 +206,6 @@ grid_zero f a c C e =
   where
     flat : (x y u : ℕ) → dist x y ≤ dist (0 * u) y → y ≡ 0 → x ≡ 0
     flat x y u h k = omega arith
-
-pub split_pow : (k l : ℕ) → k ≤ l → 2 ^ l ≡ 2 ^ (l - k) * 2 ^ k
-split_pow k l h = ap (λ (z : ℕ). 2 ^ z) {x = l} {y = l - k + k} (omega arith) ∙ pow-add 2 (l - k) k
 
 lower : (s : Bool) (g m k l : ℕ) → k ≤ l → g ≡ m * 2 ^ (l - k) → frac s g (2 ^ l) (pow_pos l) ≡ frac s m (2 ^ k) (pow_pos k)
 lower s g m k l h e = frac_same s g (2 ^ l) m (2 ^ k) (pow_pos l) (pow_pos k) (ap (λ (u : ℕ). u * 2 ^ k) e ∙ mul_assoc m (2 ^ (l - k)) (2 ^ k) ∙ ap (λ (u : ℕ). m * u) (sym (split_pow k l h)))
@@ -247,7 +243,7 @@ round_away f x q k h r t w = record {
     none z = grid_zero f r.a r.c r.ok z
 
     reach : r.c ≤ r.a * 2 ^ k → 2 ^ (low f - k) ≤ grid f r.a r.c
-    reach l = elim (order (grid f r.a r.c) (2 ^ (low f - k))) [
+    reach l = elim (cases_lt (grid f r.a r.c) (2 ^ (low f - k))) [
       | inl s ↦ absurd (clash r.a r.c (grid f r.a r.c) (2 ^ (low f - k)) (2 ^ k) r.ok l s (subst (λ (u : ℕ). r.a * u * 2 ≤ grid f r.a r.c * r.c + 2 ^ (low f - k) * r.c) o (under1 s)))
       | inr g ↦ g
     ]

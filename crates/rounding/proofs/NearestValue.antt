@@ -6,6 +6,7 @@ use Rattle.std.specs.Float.Ieee.Fits.{round-fits}
 use Rattle.std.specs.Float.Ieee.Exact.{HasValue}
 use Rattle.std.specs.Float.Ieee.Scale.{grid, overflow}
 use Rattle.std.proofs.Math.Nat.{eq_of_mul-eq-mul_right}
+use Rattle.std.proofs.lemmas.Bool.{cases_lt}
 use std.Quotient.{cls}
 use Rattle.exact.specs.Fraction.{Fraction, Same, whole, absolute, apart, ◌≼◌}
 use Rattle.exact.proofs.Rational.{ℚ, is, ofℤ}
@@ -16,7 +17,7 @@ use Rattle.rounding.specs.Nearest.{Best, limit, Nearest, Held}
 use Rattle.rounding.proofs.Fractions.{frac, nn_frac, not_above, size_out}
 use Rattle.rounding.proofs.Value.{val, val_value, value_is, finite_is, Rounds}
 use Rattle.rounding.proofs.HalfUnit.{round_value}
-use Rattle.rounding.proofs.Best.{dist, order, grid_best}
+use Rattle.rounding.proofs.Best.{dist, grid_best}
 use Rattle.rounding.proofs.Held.{Digits, digits}
 use Rattle.rounding.proofs.Limit.{limitℕ, overflow_infinite, round_infinite, round_finite}
 use Rattle.rounding.proofs.EvenTie.{grid_tie, other_odd, even_digits, even_bits, odd_bits}
@@ -29,7 +30,7 @@ sign_of_value (inf t) s g l h = absurd h
 sign_of_value (fin t m e) s g l h = h.0
 
 pub round_sign : (f : Format) (s : Bool) (a c : ℕ) → sign (round f s a c) ≡ s
-round_sign f s a c = elim (order (grid f a c) (overflow f)) [
+round_sign f s a c = elim (cases_lt (grid f a c) (overflow f)) [
   | inl l ↦ sign_of_value (round f s a c) s (grid f a c) (2 ^ low f) (round_value f s a c l)
   | inr g ↦ ap sign (overflow_infinite f s a c g)
 ]
@@ -129,9 +130,9 @@ module _ (f : Format) (s : Bool) (a c : ℕ) (C : 0 < c) (o : grid f a c < overf
 
   -- and no other value is: one that is best too is the same number
   pub best_same : (w : Float) → Best f q w → (val w ≡ frac s g (2 ^ low f) L) × ((t : Bool) × HasValue w t g (2 ^ low f))
-  best_same w b = elim (order h' g) [
+  best_same w b = elim (cases_lt h' g) [
     | inl l ↦ absurd (odd_clash (λ u. lt_irrefl g (subst (λ (z : ℕ). z < g) u l)))
-    | inr m ↦ elim (order g h') [
+    | inr m ↦ elim (cases_lt g h') [
       | inl l ↦ absurd (odd_clash (λ u. lt_irrefl g (subst (λ (z : ℕ). g < z) u l)))
       | inr m' ↦
           let u : h' ≡ g = le_antisymm m' m in

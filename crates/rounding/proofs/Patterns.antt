@@ -5,10 +5,10 @@ use Rattle.std.specs.Float.Ieee.{prec, low, hid, ones, top, of_bits, of_fields}
 use Rattle.std.specs.Float.Ieee.Bits.{cond_no, is_true, is_false}
 use Rattle.std.specs.Float.Ieee.Exact.{HasValue, odd_sign}
 use Rattle.std.proofs.Math.Dec.{not_T}
+use Rattle.std.proofs.lemmas.Bool.{cases_lt}
 use Rattle.exact.proofs.Rational.{ℚ, -q◌}
 use Rattle.rounding.proofs.Fractions.{frac, frac_le, frac_neg}
 use Rattle.rounding.proofs.Value.{val, value_is}
-use Rattle.rounding.proofs.Best.{order}
 use Rattle.exact.proofs.Order.{◌≤q◌}
 
 -- ---- an exponent's field from 1 on, and 0
@@ -52,7 +52,7 @@ weigh_mono e t zero u l h k =
     let z : e ≡ 0 = omega arith in
     let m : t ≤ u = omega arith in
     subst (λ (w : ℕ). weigh w t ≤ weigh 0 u) (sym z) (weigh_same 0 t u m)
-weigh_mono e t (suc x) u l h k = elim (order x e) [
+weigh_mono e t (suc x) u l h k = elim (cases_lt x e) [
   | inl g ↦
       let z : e ≡ suc x = omega arith in
       let m : t ≤ u = omega arith in

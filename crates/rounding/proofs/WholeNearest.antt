@@ -4,6 +4,7 @@ use Rattle.std.specs.Float.{Float, nan, inf, fin, Format, ratio_round_half_up, r
 use Rattle.std.specs.Float.Ieee.{up, down, fits, is_nan}
 use Rattle.std.specs.Float.Ieee.Fits.{down_pos}
 use Rattle.std.specs.Float.Ieee.Exact.{HasValue}
+use Rattle.std.proofs.lemmas.Bool.{cases_lt}
 use std.Quotient.{cls}
 use Rattle.exact.specs.Fraction.{integer, absolute, apart, ◌≼◌}
 use Rattle.exact.proofs.Rational.{ℚ, is}
@@ -14,13 +15,13 @@ use Rattle.rounding.specs.Operations.{WholeNearest, WholeNumbers}
 use Rattle.rounding.specs.Nearest.{Held}
 use Rattle.rounding.proofs.Fractions.{frac, frac_le, sign_size}
 use Rattle.rounding.proofs.Value.{val_value, value_is, finite_is}
-use Rattle.rounding.proofs.Best.{half_best, dist, order}
+use Rattle.rounding.proofs.Best.{half_best, dist}
 use Rattle.rounding.proofs.Distance.{at_most_in, same_number, abs_cls, abs_frac, apart_le, gap, sfrac, nearer_in, nearer_out}
 use Rattle.rounding.proofs.NearestValue.{sign_of_value, same_nearer, tie_nearer}
 use Rattle.rounding.proofs.WholeNumber.{half_up, away_value, away_fits}
 
 away_largest : (n d k : ℕ) → 0 < d → dist (k * d) n ≤ dist (ratio_round_half_up n d * d) n → k ≤ ratio_round_half_up n d
-away_largest n d k D h = elim (order (ratio_round_half_up n d) k) [
+away_largest n d k D h = elim (cases_lt (ratio_round_half_up n d) k) [
   | inl l ↦
       let K = (2 * n + d) / (2 * d) in
       let r = (2 * n + d) % (2 * d) in

@@ -6,12 +6,12 @@ use Rattle.std.specs.Float.Ieee.Fits.{round-fits, nan-fits, inf-fits}
 use Rattle.std.specs.Float.Ieee.Exact.{HasValue, round_exact}
 use Rattle.std.specs.Float.Ieee.Scale.{finite}
 use Rattle.std.specs.Float.Ieee.Back.{round_whole}
+use Rattle.std.proofs.lemmas.Bool.{cases_lt}
 use Rattle.exact.proofs.Rational.{◌-q◌, -q◌, ofℤ}
 use Rattle.exact.proofs.Bound.{Bound}
 use Rattle.exact.proofs.Compare.{dy}
 use Rattle.rounding.proofs.Value.{val}
 use Rattle.rounding.proofs.HalfUnit.{Half}
-use Rattle.rounding.proofs.Best.{order}
 use Rattle.rounding.proofs.Held.{fit_digits, digits}
 
 pub half_up : (n d : ℕ) → 0 < d → Half (ratio_round_half_up n d * d) d n
@@ -23,7 +23,7 @@ half_up n d D =
     (omega arith, omega arith)
 
 half_small : (m K d P : ℕ) → 0 < d → m < P → K * d * 2 ≤ m * 2 + d → K ≤ P
-half_small m K d P D l h = elim (order P K) [
+half_small m K d P D l h = elim (cases_lt P K) [
   | inl g ↦
       let a : suc P * d ≤ K * d = mul-le-mul_right d g in
       let b : P * 1 ≤ P * d = mul-le-mul_left P D in
