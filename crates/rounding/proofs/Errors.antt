@@ -100,10 +100,9 @@ infinite_near_lem f q v e x n h = (
     limit_positive binary64 h = (at_most_in (limit binary64) (whole 0) h).le
 
     infinite_plus : (x : Float) → T (infinite x) → T (not (sign x)) → x ≡ inf false
-    infinite_plus nan t u = absurd t
     infinite_plus (inf false) t u = refl
     infinite_plus (inf true) t u = absurd u
-    infinite_plus (fin s m e) t u = absurd t
+    infinite_plus _ t _ = absurd t
 
 -- ---- a multiply-add, rounded once or twice
 eps_is : (f : Format) → eps f ≡ cls (dyadic 1 (prec f))

@@ -41,8 +41,6 @@ fit_top f s m e t =
     ltb→lt (suc m * up e) (2 ^ suc (emax f) * down e) (and_r (a && b && c) d t)
 
 pub digits : (f : Format) (x : Float) → T (finite x) → T (fits f x) → Digits f x
-digits f nan t w = absurd t
-digits f (inf s) t w = absurd t
 digits f (fin s zero e) t w = record { s = s; q = 0; j = 0; few = pow_pos (prec f); under = pow_pos (low f + suc (emax f)); how = (refl, omega arith) }
 digits f (fin s (suc m) (pos k)) t w = record {
   s = s;
@@ -65,6 +63,7 @@ digits f (fin s (suc m) (negsuc k)) t w = record {
   where
     same : (m l a b : ℕ) → l ≡ a * b → m * 1 * l ≡ m * a * b
     same m l a b e = let k : m * l ≡ m * (a * b) = ap (λ (z : ℕ). m * z) e in omega arith
+digits _ _ t _ = absurd t
 
 nought : (k : ℕ) (s : Bool) (u c : ℕ) (C : 0 < c) → Mult k (frac s (0 * u) c C)
 nought k s u c C = record { num = signed s 0; how = frac_same s (0 * u) c 0 (2 ^ k) C (pow_pos k) (omega arith) }
@@ -93,8 +92,7 @@ coarse f a (fin s (suc m) (negsuc j)) t w v =
 -- and every value is a multiple of the smallest
 pub finest : (f : Format) (x : Float) → T (finite x) → T (fits f x) → Mult (low f) (val x)
 unfolding val ofℤ
-finest f nan t w = absurd t
-finest f (inf s) t w = absurd t
 finest f (fin s zero e) t w = nought (low f) s (up e) (down e) (down_pos e)
 finest f (fin s (suc m) (pos j)) t w = mult_more (low f) {q = frac s (suc m * 2 ^ j) 1 (down_pos (pos j))} zero-le (record { num = signed s (suc m * 2 ^ j); how = is refl })
 finest f (fin s (suc m) (negsuc j)) t w = mult_more (low f) {q = frac s (suc m * 1) (2 ^ suc j) (down_pos (negsuc j))} (pow_le (suc j) (low f) (fit_digits f s m (negsuc j) w).1) (record { num = signed s (suc m * 1); how = is refl })
+finest _ _ t _ = absurd t

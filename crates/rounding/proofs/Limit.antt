@@ -65,10 +65,8 @@ top_infinite binary64 = refl
 
 above_infinity : (x : Float) → T (le (inf false) x) → x ≡ inf false
 unfolding le
-above_infinity nan t = absurd t
 above_infinity (inf false) t = refl
-above_infinity (inf true) t = absurd t
-above_infinity (fin s m e) t = absurd t
+above_infinity _ t = absurd t
 
 pub infinite_from : (f : Format) (a c : ℕ) → 0 < c → limitℕ f * c ≤ a → overflow f ≤ grid f a c
 infinite_from f a c C h = elim (cases_lt (grid f a c) (overflow f)) [

@@ -260,15 +260,12 @@ round_away f x q k h r t w = record {
 -- ---- two more ways to be away from 0: to be at least 2 ^ -k, and to be at most -2 ^ -k
 pub away_above : (k : ℕ) (x : Float) → T (finite x) → dy 1 k ≤q val x → Away k (val x)
 unfolding val ofℤ
-away_above k nan t h = absurd t
-away_above k (inf s) t h = absurd t
 away_above k (fin false m e) t h = record { s = false; a = m * up e; c = down e; ok = down_pos e; how = refl; far = inr (omega (arith, frac_le_out 1 (2 ^ k) (m * up e) (down e) (pow_pos k) (down_pos e) h)) }
 away_above k (fin true m e) t h = absurd (omega (arith, frac_le_out 1 (2 ^ k) 0 1 (pow_pos k) (zero-lt-suc 0) (q_trans h (not_above (m * up e) (down e) (down_pos e) (frac false 0 1 (zero-lt-suc 0)) (nn_frac 0 1 (zero-lt-suc 0))))))
+away_above _ _ t _ = absurd t
 
 pub away_below : (k : ℕ) (x : Float) → T (finite x) → val x ≤q -q◌ (dy 1 k) → Away k (val x)
 unfolding val ofℤ
-away_below k nan t h = absurd t
-away_below k (inf s) t h = absurd t
 away_below k (fin true m e) t h = record { s = true; a = m * up e; c = down e; ok = down_pos e; how = refl; far = inr (omega (arith, frac_le_out 1 (2 ^ k) (m * up e) (down e) (pow_pos k) (down_pos e) (turn (m * up e) (down e) (down_pos e) h))) }
   where
     turn : (a c : ℕ) (C : 0 < c) → frac true a c C ≤q -q◌ (dy 1 k) → dy 1 k ≤q frac false a c C
@@ -277,6 +274,7 @@ away_below k (fin false m e) t h = absurd (omega (arith, frac_le_out 1 (2 ^ k) 0
   where
     under_zero : ofℤ (pos 0) ≤q -q◌ (dy 1 k) → dy 1 k ≤q frac false 0 1 (zero-lt-suc 0)
     under_zero g = unfold norm in subst (λ (u : ℚ). u ≤q ofℤ (pos 0)) (qring (⊝ (⊝ x₀)) x₀ refl (dy 1 k ∷ [])) (subst (λ (u : ℚ). -q◌ (-q◌ (dy 1 k)) ≤q u) (qring (⊝ (con (pos 0))) (con (pos 0)) refl []) (q_neg g))
+away_below _ _ t _ = absurd t
 
 -- ---- a permitted multiply-add of multiples
 pub permitted_mult : (f : Format) (x y z r : Float) (k : ℕ) → k ≤ low f → T (finite x) → T (finite y) → T (finite z) → T (finite (mul f x y)) → T (finite r) → Permitted f x y z r → Mult k (val x *q val y) → Mult k (val z) → Mult k (val r)

@@ -38,9 +38,8 @@ pub record Result (f : Format) (q : Fraction) (x : Float) : Type 0 where
   pub has : HasValue x t (grid f a q.den) (2 ^ low f)
 
 pub finite_or_infinite : (x : Float) → T (finite x) → T (infinite x) → ⊥
-finite_or_infinite nan t u = absurd t
-finite_or_infinite (inf s) t u = absurd t
 finite_or_infinite (fin s m e) t u = absurd u
+finite_or_infinite _ t _ = absurd t
 
 number_of : (q : Fraction) → ◌≡◌ {A = ℚ} (cls q) (frac (sign_size q.num).s (sign_size q.num).n q.den q.ok)
 number_of q = ap (λ (z : ℤ). fr z q.den q.ok) (sign_size q.num).how
@@ -77,9 +76,8 @@ bits_of f s n = cond s (top f) 0 + (size n - prec f) * hid f + n / 2 ^ (size n -
 
 bits_are : (f : Format) (y : Float) (s : Bool) (g : ℕ) → HasValue y s g (2 ^ low f) → to_bits f y ≡ bits_of f s g
 unfolding to_bits bits_of
-bits_are f nan s g h = absurd h
-bits_are f (inf t) s g h = absurd h
 bits_are f (fin t m e) s g h = ap (λ (n : ℕ). cond t (top f) 0 + (size n - prec f) * hid f + n / 2 ^ (size n - prec f)) (steps_are f t m e s g h) ∙ ap (λ (b : Bool). cond b (top f) 0 + (size g - prec f) * hid f + g / 2 ^ (size g - prec f)) h.0
+bits_are _ _ _ _ h = absurd h
 
 pub one_float : (f : Format) (y y' : Float) (s : Bool) (g : ℕ) → T (fits f y) → T (fits f y') → HasValue y s g (2 ^ low f) → HasValue y' s g (2 ^ low f) → y ≡ y'
 one_float f y y' s g t t' h h' = sym (of_bits-to_bits f y t) ∙ ap (of_bits f) (bits_are f y s g h ∙ sym (bits_are f y' s g h')) ∙ of_bits-to_bits f y' t'
@@ -96,9 +94,8 @@ from_or_below f q = elim (decide (le_z ((limit f).num *ℤ pos (absolute q).den)
 ]
 
 infinite_is : (x : Float) → T (infinite x) → x ≡ inf (sign x)
-infinite_is nan t = absurd t
 infinite_is (inf s) t = refl
-infinite_is (fin s m e) t = absurd t
+infinite_is _ t = absurd t
 
 finite_sign : (x : Float) (t : Bool) (g l : ℕ) → HasValue x t g l → t ≡ sign x
 finite_sign x t g l h = sym (sign_of_value x t g l h)

@@ -25,9 +25,8 @@ use Rattle.rounding.proofs.Distance.{at_most_in, at_most_out, same_number, abs_c
 
 -- ---- the sign of a result is the sign that was handed to `round`
 pub sign_of_value : (x : Float) (s : Bool) (g l : ℕ) → HasValue x s g l → sign x ≡ s
-sign_of_value nan s g l h = absurd h
-sign_of_value (inf t) s g l h = absurd h
 sign_of_value (fin t m e) s g l h = h.0
+sign_of_value _ _ _ _ h = absurd h
 
 pub round_sign : (f : Format) (s : Bool) (a c : ℕ) → sign (round f s a c) ≡ s
 round_sign f s a c = elim (cases_lt (grid f a c) (overflow f)) [

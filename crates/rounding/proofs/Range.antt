@@ -24,13 +24,12 @@ sum_fits f s a t b c =
 
 pub fused_fits : (f : Format) (x y z : Float) → T (finite x) → T (finite y) → T (finite z) → T (fits f (float_mul_add f x y z))
 unfolding float_mul_add
-fused_fits f nan y z h k l = absurd h
-fused_fits f (inf s) y z h k l = absurd h
 fused_fits f (fin s m e) nan z h k l = absurd k
 fused_fits f (fin s m e) (inf t) z h k l = absurd k
 fused_fits f (fin s m e) (fin t n d) nan h k l = absurd l
 fused_fits f (fin s m e) (fin t n d) (inf u) h k l = absurd l
 fused_fits f (fin s m e) (fin t n d) (fin u i g) h k l = sum_fits f (unlike s t) (m * up e * (n * up d) * down g) u (i * up g * (down e * down d)) (down e * down d * down g)
+fused_fits _ _ _ _ h _ _ = absurd h
 
 pub permitted_fits : (f : Format) (x y z r : Float) → T (finite x) → T (finite y) → T (finite z) → Permitted f x y z r → T (fits f r)
 permitted_fits f x y z r h k l (once e) = subst (λ (u : Float). T (fits f u)) (sym e) (fused_fits f x y z h k l)
@@ -61,9 +60,8 @@ pub ranged_above : (f : Format) (k : ℕ) (x : Float) (B : ℚ) → T (fits f x)
 ranged_above f k x B h t l b m = ranged f k x h t (away_above k x t l) (bound_more b m)
 
 pub ranged_finite : (f : Format) (k : ℕ) (x : Float) → Ranged f k x → T (finite x)
-ranged_finite f k nan h = absurd h
-ranged_finite f k (inf s) h = absurd h
 ranged_finite f k (fin s m e) h = tt
+ranged_finite _ _ _ h = absurd h
 
 -- a multiply-add that is lawful on its range
 abbrev pub FmaLaw : Format → ℕ → (Float → Float → Float → Float) → Type 0

@@ -167,12 +167,11 @@ unfolding ◌+q◌
 plus_is e = refl
 
 zero_value : (x : Float) (t : Bool) (g l : ℕ) → 0 < l → HasValue x t g l → g ≡ 0 → T (is_zero x)
-zero_value nan t g l L h z = absurd h
-zero_value (inf s) t g l L h z = absurd h
 zero_value (fin s m d) t g l L h z = subst (λ (k : ℕ). T (eqb k 0)) (sym (none m (up d) l (up_pos d) L (h.1 ∙ ap (λ (k : ℕ). k * down d) z ∙ zero-mul (down d)))) tt
   where
     none : (m a l : ℕ) → 0 < a → 0 < l → m * a * l ≡ 0 → m ≡ 0
     none m a l A L e = elim (eq-zero-or-pos m) [ inl z ↦ z | inr p ↦ let q : 0 < m * a * l = mul-pos (mul-pos p A) L in absurd (omega arith) ]
+zero_value _ _ _ _ _ h _ = absurd h
 
 best_of : (f : Format) (q : Fraction) (x : Float) → Nearest f q x → T (finite x) → Best f q x
 best_of f q x n t = n.otherwise (λ h. finite_or_infinite x t (n.overflows h))

@@ -22,9 +22,8 @@ val_value x = refl
 -- x has the sign s and is g / l in size
 pub value_is : (x : Float) (s : Bool) (g l : ℕ) (L : 0 < l) → HasValue x s g l → val x ≡ frac s g l L
 unfolding val
-value_is nan s g l L v = absurd v
-value_is (inf t) s g l L v = absurd v
 value_is (fin t m e) s g l L v = frac_same t (m * up e) (down e) g l (down_pos e) L v.1 ∙ ap (λ (b : Bool). frac b g l L) v.0
+value_is _ _ _ _ _ v = absurd v
 
 pub finite_is : (x : Float) (s : Bool) (g l : ℕ) → HasValue x s g l → T (finite x)
 finite_is nan s g l v = v
@@ -42,8 +41,6 @@ pub record Rounds (f : Format) (x : Float) (q : ℚ) : Type 0 where
 
 pub mul_rounds : (f : Format) (x y : Float) → T (finite x) → T (finite y) → Rounds f (mul f x y) (val x *q val y)
 unfolding mul val
-mul_rounds f nan y h k = absurd h
-mul_rounds f (inf s) y h k = absurd h
 mul_rounds f (fin s m e) nan h k = absurd k
 mul_rounds f (fin s m e) (inf t) h k = absurd k
 mul_rounds f (fin s m e) (fin t n d) h k = record {
@@ -54,6 +51,7 @@ mul_rounds f (fin s m e) (fin t n d) h k = record {
   how = refl;
   what = frac_mul s t (m * up e) (n * up d) (down e) (down d) (down_pos e) (down_pos d);
 }
+mul_rounds _ _ _ h _ = absurd h
 
 sum_rounds : (f : Format) (s : Bool) (a : ℕ) (t : Bool) (b c : ℕ) (C : 0 < c) → Rounds f (sum f s a t b c) (frac s a c C +q frac t b c C)
 unfolding sum

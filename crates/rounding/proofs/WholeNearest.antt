@@ -100,14 +100,12 @@ away_finite f (fin s m e) h = whole_nearest f s m e h.is_held
 away_nan : (f : Format) (x : Float) → T (is_nan x) → float_round f x ≡ nan
 unfolding round_with is_nan
 away_nan f nan t = refl
-away_nan f (inf s) t = absurd t
-away_nan f (fin s m e) t = absurd t
+away_nan _ _ t = absurd t
 
 away_infinite : (f : Format) (x : Float) → T (infinite x) → float_round f x ≡ x
 unfolding round_with
-away_infinite f nan t = absurd t
 away_infinite f (inf s) t = refl
-away_infinite f (fin s m e) t = absurd t
+away_infinite _ _ t = absurd t
 
 pub whole_numbers : WholeNumbers
 whole_numbers f x = record { nan_in = away_nan f x; infinite_in = away_infinite f x; finite_in = away_finite f x }
