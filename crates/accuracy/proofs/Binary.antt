@@ -76,8 +76,6 @@ band x number =
 -- what the test of a whole number says
 whole_out : (x : Float) → T (in_powers x) → (val x ≡ ofℤ (to_signed 31 x)) × (negsuc 148 ≤ℤ to_signed 31 x) × (to_signed 31 x ≤ℤ pos 127)
 unfolding is_whole to_signed val ofℤ
-whole_out nan t = absurd t
-whole_out (inf s) t = absurd t
 whole_out (fin s m e) t =
     let K = m * up e / down e in
     let z : ℤ = cond s (neg_ℤ (pos (min K 2147483648))) (pos (min K 2147483647)) in
@@ -91,6 +89,7 @@ whole_out (fin s m e) t =
     same_sign : (s : Bool) (n : ℕ) → signed s n ≡ cond s (neg_ℤ (pos n)) (pos n)
     same_sign false n = refl
     same_sign true n = refl
+whole_out _ t = absurd t
 
 small_power : (k : ℤ) → negsuc 148 ≤ℤ k → k ≤ℤ pos 127 → nat_abs k ≤ 200
 small_power (pos n) l h = omega (arith, ints, h)
@@ -119,9 +118,8 @@ whole_in x k l h t e =
     size k s = unfold ofℤ ofℕ -q◌ in record { hi = leq_in (integer k) (integer (pos 200)) (le_in (k *ℤ pos 1) (pos 200) (omega (arith, ints))); lo = leq_in (integer (negsuc 199)) (integer k) (le_in (negsuc 199) (k *ℤ pos 1) (omega (arith, ints))) }
 
     no_rest : (x : Float) (k : ℤ) → T (finite x) → Same (value x) (integer k) → T (is_whole x)
-    no_rest nan k t e = absurd t
-    no_rest (inf s) k t e = absurd t
     no_rest (fin s m d) k t e = unfold is_whole in eq→eqb (ap (λ (n : ℕ). n % down d) (sym (mul-one (m * up d)) ∙ sym (signed_size s (m * up d * 1)) ∙ ap nat_abs (sym (signed_mul s (m * up d) 1) ∙ e) ∙ size_mul k (down d)) ∙ mul-mod_left (nat_abs k) (down d))
+    no_rest _ _ t _ = absurd t
 
 -- ---- right
 nums : (sized 0x3280_0000 ≤q dy 1 26) × (dy 1 5 ≤q last binary) × (-q◌ (ofℕ 150) ≤q -q◌ (sized 0x4316_0000)) × (-q◌ (sized 0x4315_0000) ≤q -q◌ (ofℕ 149)) × (-q◌ (sized 0x4316_0000) ≤q -q◌ (zero_from binary))
@@ -173,8 +171,6 @@ exp2_exact : CurveExact exp2
 exp2_exact a v x w k l h t e = exact_at a x k l h t e
 
 zero_value : (x : Float) → T (is_zero x) → T (finite x) × Same (value x) (integer (pos 0))
-zero_value nan t = absurd t
-zero_value (inf s) t = absurd t
 zero_value (fin s m e) t = (tt, ap (λ (n : ℕ). signed s (n * up e) *ℤ pos 1) (eqb→eq m 0 t) ∙ nil s (up e) (down e))
   where
     none : (u : ℕ) → 0 * u ≡ 0
@@ -183,6 +179,7 @@ zero_value (fin s m e) t = (tt, ap (λ (n : ℕ). signed s (n * up e) *ℤ pos 1
     nil : (s : Bool) (u d : ℕ) → signed s (0 * u) *ℤ pos 1 ≡ pos 0 *ℤ pos d
     nil false u d = ap (λ (n : ℕ). pos n *ℤ pos 1) (none u) ∙ sym (ap pos (none d))
     nil true u d = ap (λ (n : ℕ). neg_ℤ (pos n) *ℤ pos 1) (none u) ∙ sym (ap pos (none d))
+zero_value _ t = absurd t
 
 exp2_special : CurveSpecial exp2
 exp2_special a x = record {

@@ -201,9 +201,8 @@ zero_at a false m e z = simp (zero_number false m e z)
 zero_at a true m e z = simp (zero_number true m e z)
 
 zero_value : (a : Arithmetic) (x : Float) → T (is_zero x) → exp10_value a x ≡ fin false 1 (pos 0)
-zero_value a nan t = absurd t
-zero_value a (inf s) t = absurd t
 zero_value a (fin s m e) t = zero_at a s m e (eqb→eq m 0 t)
+zero_value _ _ t = absurd t
 
 exp10_special : CurveSpecial exp10
 exp10_special a x = record {

@@ -107,9 +107,8 @@ unfolding is_nan of_bits
 at_one a s m e z = simp (zero_pattern s m e z)
 
 pub of_zero : (a : Arithmetic) (x : Float) → T (is_zero x) → exp_value a x ≡ fin false 1 (pos 0)
-of_zero a nan t = absurd t
-of_zero a (inf s) t = absurd t
 of_zero a (fin s m e) t = at_one a s m e (eqb→eq m 0 t)
+of_zero _ _ t = absurd t
 
 pub exp_special : CurveSpecial exp
 unfolding is_nan of_bits to_bits

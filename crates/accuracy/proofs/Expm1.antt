@@ -121,9 +121,8 @@ unfolding is_nan
 at_itself a s m e z = simp (zero_pattern s m e z)
 
 pub of_zero : (a : Arithmetic) (x : Float) → T (is_zero x) → expm1_value a x ≡ x
-of_zero a nan t = absurd t
-of_zero a (inf s) t = absurd t
 of_zero a (fin s m e) t = at_itself a s m e (eqb→eq m 0 t)
+of_zero _ _ t = absurd t
 
 pub expm1_special : CurveSpecial expm1
 unfolding is_nan of_bits to_bits

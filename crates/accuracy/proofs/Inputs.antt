@@ -60,9 +60,8 @@ signed_of x w t =
 -- ---- a finite f32 is no NaN, and is of the size that its pattern says
 pub numberless : (x : Float) → T (finite x) → T (not (is_nan x))
 unfolding is_nan
-numberless nan t = absurd t
-numberless (inf s) t = absurd t
 numberless (fin s m e) t = tt
+numberless _ t = absurd t
 
 pub sized_bound : (x : Float) → T (fits binary32 x) → T (finite x) → Bound (val x) (sized (magnitude x))
 sized_bound x w t = elim (signed_of x w t) [

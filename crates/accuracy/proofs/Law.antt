@@ -32,17 +32,15 @@ finite_in (fin s m e) h = tt
 
 -- ---- a multiply-add on its range
 pub ranged_within : (f : Format) (n : ℕ) (x : Float) → Ranged f (suc n) x → T (within (suc n) x)
-ranged_within f n nan r = absurd r
-ranged_within f n (inf s) r = absurd r
 ranged_within f n (fin s m e) r = elim r.1 [
   | inl z ↦ within_zero (suc n) s m e (ap (λ (k : ℕ). k * up e) z ∙ omega arith)
   | inr l ↦ within_range n s m e l.0 l.1
 ]
+ranged_within _ _ _ r = absurd r
 
 pub ranged_fits : (f : Format) (n : ℕ) (x : Float) → Ranged f n x → T (fits f x)
-ranged_fits f n nan r = absurd r
-ranged_fits f n (inf s) r = absurd r
 ranged_fits f n (fin s m e) r = r.0
+ranged_fits _ _ _ r = absurd r
 
 permitted : (f : Format) (x y z r : Float) → OneOrTwo f x y z r → Permitted f x y z r
 permitted f x y z r (inl e) = once e
@@ -62,12 +60,11 @@ fmaf_law a w = multiply_add binary32 59 a.fmaf w.fmaf_law
 -- ---- a rounding to a whole number
 pub small_of : (x : Float) → T (finite x) → Bound (val x) (ofℕ (2 ^ 21)) → T (small x)
 unfolding val ofℕ ofℤ
-small_of nan t b = absurd t
-small_of (inf s) t b = absurd t
 small_of (fin s m e) t b =
     let u : m * up e * 1 ≤ 2 ^ 21 * down e = frac_le_out (m * up e) (down e) (2 ^ 21) 1 (down_pos e) (zero-lt-suc 0) (size_under s (m * up e) (down e) (down_pos e) _ b) in
     let p = down_pos e in
     small_in (fin s m e) s (m * up e) (down e) p (refl, refl) (omega arith)
+small_of _ t _ = absurd t
 
 half_number : dy 1 1 *q ofℕ 2 ≡ ofℤ (pos 1)
 unfolding ◌*q◌ ofℕ ofℤ

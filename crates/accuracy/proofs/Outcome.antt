@@ -140,14 +140,12 @@ small = record { nn_k = tt; half_k = record { le = tt }; little = record { le = 
 
 nearest_fits : (z : Float) → T (finite z) → T (fits binary32 (round_to_format binary32 z))
 unfolding round_to_format
-nearest_fits nan t = absurd t
-nearest_fits (inf s) t = absurd t
 nearest_fits (fin s m e) t = round-fits binary32 s (m * up e) (down e)
+nearest_fits _ t = absurd t
 
 zero_has : (y : Float) (s : Bool) → T (is_zero y) → sign y ≡ s → HasValue y s 0 (2 ^ 149)
-zero_has nan s t e = absurd t
-zero_has (inf u) s t e = absurd t
 zero_has (fin u m d) s t e = (e, ap (λ (k : ℕ). k * up d * 2 ^ 149) (eqb→eq m 0 t) ∙ omega arith)
+zero_has _ _ t _ = absurd t
 
 part_units : (u : Fraction) → dy 1 12 *q cls u ≡ cls (times small_part u)
 part_units u = ap (λ (y : ℚ). y *q cls u) twelve ∙ sym (product_cls small_part u)

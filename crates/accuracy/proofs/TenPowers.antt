@@ -89,9 +89,8 @@ near_out g N b =
 
 -- ---- the figure of z
 sign_is : (y : Float) (t : Bool) (g l : ℕ) → HasValue y t g l → sign y ≡ t
-sign_is nan t g l h = absurd h
-sign_is (inf s) t g l h = absurd h
 sign_is (fin s m e) t g l h = h.0
+sign_is _ _ _ _ h = absurd h
 
 pub ten_figure : (n : ℕ) → n ≤ 10 → (z : Float) → T (finite z) → (ofℕ (limitℕ binary32) ≤q absq (val z) → ⊥) → sign (round_to_format binary32 z) ≡ false → Bound (val z -q ofℕ (10 ^ n)) (dy 1 42 *q ofℕ (10 ^ n)) → T (finite (round_to_format binary32 z)) × Same (value (round_to_format binary32 z)) (whole (10 ^ n))
 unfolding norm ◌-q◌

@@ -94,17 +94,15 @@ norm (a ⊗ b) = mul_p (norm a) (norm b)
 norm (⊝ a) = mul_t (negsuc 0) [] (norm a)
 
 next_eq : (o p : Ordering) → T (compare_is_eq (next o p)) → T (compare_is_eq o) × T (compare_is_eq p)
-next_eq Ordering.lt p t = absurd t
 next_eq Ordering.eq p t = (tt, t)
-next_eq Ordering.gt p t = absurd t
+next_eq _ _ t = absurd t
 
 cmp_m_eq : (m n : List ℕ) → T (compare_is_eq (cmp_m m n)) → m ≡ n
 cmp_m_eq [] [] t = refl
-cmp_m_eq [] (y ∷ n) t = absurd t
-cmp_m_eq (x ∷ m) [] t = absurd t
 cmp_m_eq (x ∷ m) (y ∷ n) t =
     let h = next_eq (compare x y) (cmp_m m n) t in
     ap₂ (λ (a : ℕ) (l : List ℕ). a ∷ l) (eqb→eq x y h.0) (cmp_m_eq m n h.1)
+cmp_m_eq _ _ t = absurd t
 
 module _ (K : CRing) where
   abbrev pub look : List K.carrier → ℕ → K.carrier

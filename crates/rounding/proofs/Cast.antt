@@ -17,8 +17,6 @@ cast_signed h true n l = ap (λ (u : ℕ). neg_ℤ (pos u)) {x = min n (2 ^ h)} 
 
 pub cast_value : (h : ℕ) (x : Float) (B : ℕ) → B < 2 ^ h → T (finite x) → Mult 0 (val x) → Bound (val x) (ofℕ B) → val x ≡ ofℤ (to_signed h x)
 unfolding val ofℤ ofℕ to_signed
-cast_value h nan B lt t m b = absurd t
-cast_value h (inf s) B lt t m b = absurd t
 cast_value h (fin s m e) B lt t w b =
     let v = sized w in
     let n = v.n in
@@ -28,3 +26,4 @@ cast_value h (fin s m e) B lt t w b =
     let l : n * 1 ≤ B * 1 = frac_le_out n 1 B 1 (pow_pos 0) (zero-lt-suc 0) (size_under v.s n 1 (pow_pos 0) _ (subst (λ (u : ℚ). Bound u (ofℕ B)) v.how b)) in
     frac_same s (m * up e) (down e) n 1 (down_pos e) (zero-lt-suc 0) q
     ∙ ap (λ (z : ℤ). ofℤ z) (sym (ap (λ (u : ℕ). cond s (neg_ℤ (pos (min u (2 ^ h)))) (pos (min u (2 ^ h - 1)))) d ∙ cast_signed h s n (omega arith)))
+cast_value _ _ _ _ t _ _ = absurd t

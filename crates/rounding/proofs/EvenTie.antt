@@ -215,16 +215,14 @@ steps_are f t m e s g h = ap (λ (k : ℕ). k / down e) h.1 ∙ mul-div_cancel g
 
 pub even_bits : (f : Format) (x : Float) (s : Bool) (g : ℕ) → HasValue x s g (2 ^ low f) → g / 2 ^ (size g - prec f) % 2 ≡ 0 → to_bits f x % 2 ≡ 0
 unfolding to_bits
-even_bits f nan s g h e = absurd h
-even_bits f (inf t) s g h e = absurd h
 even_bits f (fin t m d) s g h e =
     subst (λ (n : ℕ). (cond t (top f) 0 + (size n - prec f) * hid f + n / 2 ^ (size n - prec f)) % 2 ≡ 0) (sym (steps_are f t m d s g h))
     (pattern_even f t (size g - prec f) (g / 2 ^ (size g - prec f)) e)
+even_bits _ _ _ _ h _ = absurd h
 
 pub odd_bits : (f : Format) (x : Float) (s : Bool) (g : ℕ) → HasValue x s g (2 ^ low f) → g / 2 ^ (size g - prec f) % 2 ≡ 1 → to_bits f x % 2 ≡ 1
 unfolding to_bits
-odd_bits f nan s g h e = absurd h
-odd_bits f (inf t) s g h e = absurd h
 odd_bits f (fin t m d) s g h e =
     subst (λ (n : ℕ). (cond t (top f) 0 + (size n - prec f) * hid f + n / 2 ^ (size n - prec f)) % 2 ≡ 1) (sym (steps_are f t m d s g h))
     (pattern_odd f t (size g - prec f) (g / 2 ^ (size g - prec f)) e)
+odd_bits _ _ _ _ h _ = absurd h

@@ -71,8 +71,6 @@ nought k s u c C = record { num = signed s 0; how = frac_same s (0 * u) c 0 (2 ^
 -- a value of the format that is 0 or at least 2 ^ -a is a multiple of 2 ^ -(prec - 1 + a): 23 + a in f32
 pub coarse : (f : Format) (a : ℕ) (x : Float) → T (finite x) → T (fits f x) → Away a (val x) → Mult (prec f - 1 + a) (val x)
 unfolding val ofℤ
-coarse f a nan t w v = absurd t
-coarse f a (inf s) t w v = absurd t
 coarse f a (fin s zero e) t w v = nought (prec f - 1 + a) s (up e) (down e) (down_pos e)
 coarse f a (fin s (suc m) (pos j)) t w v = mult_more (prec f - 1 + a) {q = frac s (suc m * 2 ^ j) 1 (down_pos (pos j))} zero-le (record { num = signed s (suc m * 2 ^ j); how = is refl })
 coarse f a (fin s (suc m) (negsuc j)) t w v =
@@ -88,6 +86,7 @@ coarse f a (fin s (suc m) (negsuc j)) t w v =
         let g : 2 ^ i < 2 ^ prec f * 2 ^ a = lt_of_le_of_lt (le_trans l (le_of_eq (ap (λ (z : ℕ). z * 2 ^ a) {x = suc m * 1} {y = suc m} (omega arith)))) u in
         let i_lt : i < prec f + a = pow_under i (prec f + a) (subst (λ (z : ℕ). 2 ^ i < z) (sym (pow-add 2 (prec f) a)) g) in
         omega arith
+coarse _ _ _ t _ _ = absurd t
 
 -- and every value is a multiple of the smallest
 pub finest : (f : Format) (x : Float) → T (finite x) → T (fits f x) → Mult (low f) (val x)

@@ -2,7 +2,7 @@
 use Rattle.std.proofs.Common.{◌≡◌, ℕ, suc, ◌+◌, ◌-◌, ◌*◌, ◌^◌, ◌<◌, Bool, true, false, cond, not, ◌&&◌, ◌||◌, T, eqb, ltb, [], ◌∷◌, ℤ, pos, ◌+ℤ◌, ◌*ℤ◌, sym, refl, ap, ◌∙◌, subst, ap₂, inl, inr, true≢false, eq-zero-or-pos, mul-pos, zero-mul, arith, ltb→lt, lt→ltb, pow_pos}
 use Rattle.std.specs.Float.{Float, nan, inf, fin, Format, float_mul_add, round_to_format}
 use Rattle.std.specs.Float.Ieee.{prec, emax, low, up, down, unlike, odd, units, round, sum, add, mul, is_nan}
-use Rattle.std.specs.Float.Ieee.Fits.{down_pos, round_is}
+use Rattle.std.specs.Float.Ieee.Fits.{down_pos, round_is, and_r}
 use Rattle.std.specs.Float.Ieee.Bits.{cond_no, is_false}
 use Rattle.std.specs.Float.Ieee.Order.{drop, kept}
 use Rattle.std.specs.Float.Ieee.Scale.{overflow, finite}
@@ -86,20 +86,13 @@ mul_invalid f (inf s) (fin u n d) t = go (eqb n 0) t
     go : (b : Bool) → T (b || false) → cond b nan (inf (unlike s u)) ≡ nan
     go true t = refl
     go false t = absurd t
-mul_invalid f (fin s m e) nan t = go (eqb m 0) t
-  where
-    go : (b : Bool) → T (b && false) → nan ≡ nan
-    go b t = refl
+mul_invalid f (fin s m e) nan t = refl
 mul_invalid f (fin s m e) (inf u) t = go (eqb m 0) t
   where
     go : (b : Bool) → T (b && true) → cond b nan (inf (unlike s u)) ≡ nan
     go true t = refl
     go false t = absurd t
-mul_invalid f (fin s m e) (fin u n d) t = go (eqb m 0) t
-  where
-    go : (b : Bool) → T (b && false) → mul f (fin s m e) (fin u n d) ≡ nan
-    go true t = absurd t
-    go false t = absurd t
+mul_invalid f (fin s m e) (fin u n d) t = absurd (and_r (eqb m 0) false t)
 mul_invalid _ _ _ t = absurd t
 
 mul_infinite : (f : Format) (x y : Float) → T (infinite x || infinite y) → T (nonzero x && nonzero y) → mul f x y ≡ inf (unlike (sign x) (sign y))
@@ -227,11 +220,7 @@ fused_nan _ _ _ _ t = absurd t
 some_infinite : (x y : Float) → T (infinite x && is_zero y || is_zero x && infinite y) → T (infinite x || infinite y)
 some_infinite nan y t = absurd t
 some_infinite (inf s) y t = tt
-some_infinite (fin s m e) y t = right (eqb m 0) (infinite y) t
-  where
-    right : (a b : Bool) → T (a && b) → T b
-    right true b t = t
-    right false b t = absurd t
+some_infinite (fin s m e) y t = and_r (eqb m 0) (infinite y) t
 
 fused_invalid : (f : Format) (x y z : Float) → T (infinite x && is_zero y || is_zero x && infinite y) → float_mul_add f x y z ≡ nan
 unfolding add
@@ -251,12 +240,6 @@ fused_is x y z = refl
 
 fused_finite : (f : Format) (x y z : Float) → T (finite x && finite y && finite z) → Rounded f (unlike (sign x) (sign y) && sign z) (plus (times (value x) (value y)) (value z)) (float_mul_add f x y z)
 unfolding float_mul_add
-fused_finite f nan y z t = absurd t
-fused_finite f (inf s) y z t = absurd t
-fused_finite f (fin s m e) nan z t = absurd t
-fused_finite f (fin s m e) (inf u) z t = absurd t
-fused_finite f (fin s m e) (fin u n d) nan t = absurd t
-fused_finite f (fin s m e) (fin u n d) (inf v) t = absurd t
 fused_finite f (fin s m e) (fin u n d) (fin v k g) t =
     let x = fin s m e in
     let y = fin u n d in
@@ -266,6 +249,7 @@ fused_finite f (fin s m e) (fin u n d) (fin v k g) t =
       zero = λ o. zero_sum f (unlike s u) (m * up e * (n * up d) * down g) v (k * up g * (down e * down d)) (down e * down d * down g) (mul-pos (mul-pos (down_pos e) (down_pos d)) (down_pos g))
           (ap₂ (λ (x y : ℤ). x +ℤ y) (sym (signed_scale (unlike s u) (m * up e * (n * up d)) (down g)) ∙ ap (λ (q : ℤ). q *ℤ pos (down g)) (sym (signed_mul s u (m * up e) (n * up d)))) (sym (signed_scale v (k * up g) (down e * down d))) ∙ same_zero (plus (times (value x) (value y)) (value z)) o);
     }
+fused_finite _ _ _ _ t = absurd t
 
 pub multiply_adds_lem : MultiplyAdds
 multiply_adds_lem f x y z = record {

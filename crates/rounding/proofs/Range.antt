@@ -44,8 +44,6 @@ up_zero m e z = elim (eq-zero-or-pos m) [
 
 pub ranged : (f : Format) (k : ℕ) (x : Float) → T (fits f x) → T (finite x) → Away k (val x) → Bound (val x) (ofℕ (2 ^ k)) → Ranged f k x
 unfolding val ofℕ ofℤ
-ranged f k nan h t w b = absurd t
-ranged f k (inf s) h t w b = absurd t
 ranged f k (fin s m e) h t w b =
     let u : m * up e * 1 ≤ 2 ^ k * down e = frac_le_out (m * up e) (down e) (2 ^ k) 1 (down_pos e) (zero-lt-suc 0) (size_under s (m * up e) (down e) (down_pos e) _ b) in (
       h,
@@ -54,6 +52,7 @@ ranged f k (fin s m e) h t w b =
         | inr l ↦ inr (l, (omega arith))
       ],
     )
+ranged _ _ _ _ t _ _ = absurd t
 
 -- what is at least 2 ^ -k
 pub ranged_above : (f : Format) (k : ℕ) (x : Float) (B : ℚ) → T (fits f x) → T (finite x) → dy 1 k ≤q val x → Bound (val x) B → B ≤q ofℕ (2 ^ k) → Ranged f k x

@@ -74,8 +74,6 @@ sum_rounds f true a false b c C = go (ltb a b) (ltb→lt a b) (nltb→le a b)
 
 pub add_rounds : (f : Format) (x y : Float) → T (finite x) → T (finite y) → Rounds f (add f x y) (val x +q val y)
 unfolding add val
-add_rounds f nan y h k = absurd h
-add_rounds f (inf s) y h k = absurd h
 add_rounds f (fin s m e) nan h k = absurd k
 add_rounds f (fin s m e) (inf t) h k = absurd k
 add_rounds f (fin s m e) (fin t n d) h k =
@@ -86,11 +84,10 @@ add_rounds f (fin s m e) (fin t n d) h k =
     (frac_same s (m * up e * down d) (down e * down d) (m * up e) (down e) (mul-pos E F) E (simp (mul_assoc, mul_comm, mul_left_comm)))
     (frac_same t (n * up d * down e) (down e * down d) (n * up d) (down d) (mul-pos E F) F (simp (mul_assoc, mul_comm, mul_left_comm))))
     (sum_rounds f s (m * up e * down d) t (n * up d * down e) (down e * down d) (mul-pos E F))
+add_rounds _ _ _ h _ = absurd h
 
 pub fused_rounds : (f : Format) (x y z : Float) → T (finite x) → T (finite y) → T (finite z) → Rounds f (float_mul_add f x y z) (val x *q val y +q val z)
 unfolding float_mul_add val
-fused_rounds f nan y z h k l = absurd h
-fused_rounds f (inf s) y z h k l = absurd h
 fused_rounds f (fin s m e) nan z h k l = absurd k
 fused_rounds f (fin s m e) (inf t) z h k l = absurd k
 fused_rounds f (fin s m e) (fin t n d) nan h k l = absurd l
@@ -106,3 +103,4 @@ fused_rounds f (fin s m e) (fin t n d) (fin u i g) h k l =
     (frac_same (unlike s t) (a * down g) (down e * down d * down g) a (down e * down d) P (mul-pos E F) (simp (mul_assoc, mul_comm, mul_left_comm)) ∙ sym (frac_mul s t (m * up e) (n * up d) (down e) (down d) E F))
     (frac_same u (i * up g * (down e * down d)) (down e * down d * down g) (i * up g) (down g) P H (simp (mul_assoc, mul_comm, mul_left_comm))))
     (sum_rounds f (unlike s t) (a * down g) u (i * up g * (down e * down d)) (down e * down d * down g) P)
+fused_rounds _ _ _ _ h _ _ = absurd h
