@@ -26,10 +26,12 @@ use Rattle.curves.specs.Steps.{pattern, magnitude, single}
 use Rattle.curves.specs.Exp.{kf, k, lo, shifted, row_of_whole, row_of_rest, ExpReaches}
 use Rattle.curves.proofs.Natural.{exp_splits_lem}
 use Rattle.accuracy.specs.Arguments.{Asked, AskedWhole, ExpArguments}
-use Rattle.accuracy.proofs.Law.{finite_in, ranged_within, ranged_fits, fma_law, fmaf_law, small_of, roundf_near}
+use Rattle.curves.proofs.Law.{finite_out, ranged_in, fma_law, small_in_range, near_whole}
+use Rattle.curves.proofs.Law as Law
+use Rattle.accuracy.proofs.Law.{fmaf_law, asked}
 use Rattle.accuracy.proofs.Inputs.{Signed, positive, negative, signed_of}
 use Rattle.accuracy.proofs.Rows.{whole_arg, part_arg}
-use Rattle.accuracy.proofs.ExpPolynomial.{c₀, c₁, c₂, c₃, c₄, in_range, lo_range, stages}
+use Rattle.accuracy.proofs.ExpPolynomial.{in_range, lo_range, stages}
 
 -- ---- an x that reaches the tables, by its size
 pub reaches_finite : (x : Float) → ExpReaches x → T (finite x)
@@ -130,12 +132,12 @@ split a w x fx t =
     let b = reaches_size x fx t in
     let m = scaled_size x f b.1 in
     let y = mul binary32 x (single 0x4300_0000) in
-    let z = roundf_near a w y (mul-fits binary32 x (single 0x4300_0000)) m.0 (bound_more m.1 scale_numbers.4) in
+    let z = near_whole y (Law.in_range binary32 y (kf a x) (mul-fits binary32 x (single 0x4300_0000)) m.0 (bound_more m.1 scale_numbers.4) (w.roundf_law y)) in
     let rx : Ranged binary32 60 x = ranged binary32 60 x fx f b.0 (bound_more b.1 scale_numbers.6) in
     let ks : Bound (val (kf a x)) (ofℕ (2 ^ 15) +q dy 1 1) = subst (λ (u : ℚ). Bound u (ofℕ (2 ^ 15) +q dy 1 1)) (qring (x₀ ⊕ ⊝ (x₀ ⊖ x₁)) x₁ refl (val y ∷ val (kf a x) ∷ [])) (bound_add m.1 (bound_neg z.off)) in
     let rk : Ranged binary32 60 (kf a x) = ranged binary32 60 (kf a x) z.is_fit z.is_finite (away_more {k = 0} 60 (lit≤ tt) (mult_away (subst (λ (u : ℚ). Mult 0 u) (sym z.value_of) (mult_whole z.num)))) (bound_more ks scale_numbers.5) in
     let p : Permitted binary32 (kf a x) (neg (single 0x3c00_0000)) x (lo a x) = fmaf_law a w (kf a x) (neg (single 0x3c00_0000)) x rk minus_part rx in
-    let fl = finite_in (lo a x) s.finite_lo in
+    let fl = finite_out (lo a x) s.finite_lo in
     let wl = permitted_fits binary32 (kf a x) (neg (single 0x3c00_0000)) x (lo a x) z.is_finite (ranged_finite binary32 60 (neg (single 0x3c00_0000)) minus_part) f p in
     let bl : Bound (val (lo a x)) (dy 1 8) = subst (λ (u : ℚ). Bound u (dy 1 8)) (sym (val_value (lo a x))) (abs_in (value (lo a x)) (dyadic (pos 1) 8) s.small) in
     let e : val (lo a x) ≡ val x -q fr (k a x) 128 (pow_pos 7) = val_value (lo a x) ∙ is s.exact ∙ diff_cls (value x) (dyadic (k a x) 7) ∙ ap (λ (u : ℚ). u -q fr (k a x) 128 (pow_pos 7)) (sym (val_value x)) in
@@ -148,18 +150,15 @@ split a w x fx t =
       small_lo = bl;
       range_lo = lo_range (lo a x) fl wl bl;
       sum = sym (ap₂ (λ (u v : ℚ). u +q v) q e ∙ qring (x₀ ⊕ (x₁ ⊖ x₀)) x₁ refl (fr (k a x) 128 (pow_pos 7) ∷ val x ∷ []));
-      asked_whole = record { fit = mul-fits binary32 x (single 0x4300_0000); below = small_of y m.0 (bound_more m.1 scale_numbers.4) };
+      asked_whole = record { fit = mul-fits binary32 x (single 0x4300_0000); below = small_in_range y m.0 (bound_more m.1 scale_numbers.4) };
       asked_part = record {
-        of_x = (z.is_fit, ranged_within binary32 59 (kf a x) rk);
-        of_y = (ranged_fits binary32 60 (neg (single 0x3c00_0000)) minus_part, ranged_within binary32 59 (neg (single 0x3c00_0000)) minus_part);
-        of_z = (fx, ranged_within binary32 59 x rx);
+        of_x = ranged_in binary32 59 (kf a x) rk;
+        of_y = ranged_in binary32 59 (neg (single 0x3c00_0000)) minus_part;
+        of_z = ranged_in binary32 59 x rx;
       };
     }
 
 -- ---- the arguments of the split and of the polynomial
-pub asked : (x y z : Float) → Ranged binary64 400 x → Ranged binary64 400 y → Ranged binary64 400 z → Asked binary64 400 x y z
-asked x y z p q r = record { of_x = (ranged_fits binary64 400 x p, ranged_within binary64 399 x p); of_y = (ranged_fits binary64 400 y q, ranged_within binary64 399 y q); of_z = (ranged_fits binary64 400 z r, ranged_within binary64 399 z r) }
-
 pub table_arguments : ExpArguments
 table_arguments a w x fx t =
     let s = split a w x fx t in
@@ -167,8 +166,8 @@ table_arguments a w x fx t =
     record {
       for_kf = s.asked_whole;
       for_lo = s.asked_part;
-      for_third = asked (lo a x) c₄ c₃ s.range_lo in_range.4 in_range.3;
-      for_second = asked (lo a x) _ c₂ s.range_lo g.third.range in_range.2;
-      for_first = asked (lo a x) _ c₁ s.range_lo g.second.range in_range.1;
-      for_poly = asked (lo a x) _ c₀ s.range_lo g.first.range in_range.0;
+      for_third = asked s.range_lo in_range.4 in_range.3;
+      for_second = asked s.range_lo g.third.range in_range.2;
+      for_first = asked s.range_lo g.second.range in_range.1;
+      for_poly = asked s.range_lo g.first.range in_range.0;
     }

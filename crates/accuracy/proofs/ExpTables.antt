@@ -17,7 +17,7 @@ use Rattle.curves.specs.Steps.{row}
 use Rattle.curves.specs.Exp.{k, lo, row_of_whole, row_of_rest, exp_poly, exp_tables_value, ExpReaches}
 use Rattle.accuracy.specs.Figures.{Right, Agree}
 use Rattle.accuracy.specs.Inner.{exp_wide}
-use Rattle.accuracy.proofs.Law.{fma_law}
+use Rattle.curves.proofs.Law.{fma_law}
 use Rattle.accuracy.proofs.Rows.{part_factor}
 use Rattle.accuracy.proofs.ExpPolynomial.{stages, poly_near}
 use Rattle.accuracy.proofs.TableProduct.{Product, row_times_polynomial, mul_rel, halves, rel_back}

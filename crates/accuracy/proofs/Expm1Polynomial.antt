@@ -29,11 +29,11 @@ use Rattle.curves.specs.Steps.{double, poly7}
 use Rattle.curves.specs.Expm1.{expm1_small_value}
 use Rattle.accuracy.specs.Figures.{Right, Agree}
 use Rattle.accuracy.specs.Arguments.{SmallArguments}
-use Rattle.accuracy.proofs.Law.{fma_law}
+use Rattle.curves.proofs.Law.{fma_law}
 use Rattle.accuracy.proofs.Horner.{f32_range, Stage, Numbers, horner}
 use Rattle.accuracy.proofs.ExpPolynomial.{lift}
 use Rattle.accuracy.proofs.TableProduct.{mul_rel, halves}
-use Rattle.accuracy.proofs.ExpSplit.{asked}
+use Rattle.accuracy.proofs.Law.{asked}
 use Rattle.accuracy.proofs.ExpLimit.{last_under, expm1_under}
 use Rattle.accuracy.proofs.Outcome.{close, Near, nearer, Under, right_near, agree_near, plus_sign, minus_sign}
 
@@ -317,13 +317,13 @@ module _ (a : Arithmetic) (w : Lawful a) (x : Float) (c : Small x) where
 
   pub small_arguments : SmallArguments a x
   small_arguments = record {
-    for_5 = asked x a₆ a₅ range in_range.6 in_range.5;
-    for_4 = asked x _ a₄ range scheme.fifth.range in_range.4;
-    for_3 = asked x _ a₃ range scheme.fourth.range in_range.3;
-    for_2 = asked x _ a₂ range scheme.third.range in_range.2;
-    for_1 = asked x _ a₁ range scheme.second.range in_range.1;
-    for_0 = asked x _ a₀ range scheme.first.range in_range.0;
-    for_sum = asked s₀ sq x scheme.last.range sq_range range;
+    for_5 = asked range in_range.6 in_range.5;
+    for_4 = asked range scheme.fifth.range in_range.4;
+    for_3 = asked range scheme.fourth.range in_range.3;
+    for_2 = asked range scheme.third.range in_range.2;
+    for_1 = asked range scheme.second.range in_range.1;
+    for_0 = asked range scheme.first.range in_range.0;
+    for_sum = asked scheme.last.range sq_range range;
   }
 
   p_high : Bound (val s₀) (dy 35 6)

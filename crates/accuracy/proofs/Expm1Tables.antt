@@ -32,10 +32,11 @@ use Rattle.curves.specs.Expm1.{expm1_tables_value}
 use Rattle.accuracy.specs.Figures.{Right, Agree}
 use Rattle.accuracy.specs.Inner.{expm1_wide}
 use Rattle.accuracy.specs.Arguments.{LastArguments}
-use Rattle.accuracy.proofs.Law.{fma_law}
+use Rattle.curves.proofs.Law.{fma_law}
+use Rattle.accuracy.proofs.Law.{asked}
 use Rattle.accuracy.proofs.Rows.{part_factor}
 use Rattle.accuracy.proofs.TableProduct.{Product}
-use Rattle.accuracy.proofs.ExpSplit.{split, reaches_size, asked}
+use Rattle.accuracy.proofs.ExpSplit.{split, reaches_size}
 use Rattle.accuracy.proofs.ExpTables.{exp_product}
 use Rattle.accuracy.proofs.ExpLimit.{last_under, Beside, sum_bottom, expm1_under, expm1_placed}
 use Rattle.accuracy.proofs.Outcome as Outcome
@@ -218,7 +219,7 @@ last_ranges a w x fx t =
     }
 
 pub last_arguments : (a : Arithmetic) → Lawful a → (x : Float) → T (fits binary32 x) → ExpReaches x → LastArguments a x
-last_arguments a w x fx t = let r = last_ranges a w x fx t in asked _ _ minus_one r.first r.second minus_range
+last_arguments a w x fx t = let r = last_ranges a w x fx t in asked r.first r.second minus_range
 
 -- what is known of it, with the inner statement, on either side of 0
 pub record Positive (a : Arithmetic) (x : Float) : Type 0 where

@@ -1,6 +1,6 @@
 -- From the f64 z that is narrowed to what is promised of the figure: z within 2 ^ -38 of its own size of the exact value makes the figure right, and any two such figures agree.
 use Rattle.std.proofs.Common.{◌≡◌, ℕ, ◌+◌, ◌-◌, ◌*◌, ◌^◌, ◌≤◌, Bool, true, false, not, T, [], ◌∷◌, pos, sym, refl, ap, ◌∙◌, subst, zero-lt-suc, arith, eqb→eq, pow_pos}
-use Rattle.std.specs.Float.{Float, nan, inf, fin, binary32, round_to_format}
+use Rattle.std.specs.Float.{Float, inf, fin, binary32, round_to_format}
 use Rattle.std.specs.Float.Ieee.{up, down, fits}
 use Rattle.std.specs.Float.Ieee.Exact.{HasValue}
 use Rattle.std.specs.Float.Ieee.Fits.{round-fits}

@@ -20,7 +20,8 @@ use Rattle.accuracy.specs.PowerArguments.{Exp2TableArguments, Exp2Arguments, Exp
 use Rattle.accuracy.proofs.Horner.{f32_range}
 use Rattle.accuracy.proofs.NearZero.{wide, square_range}
 use Rattle.accuracy.proofs.PowerInputs.{near_zero}
-use Rattle.accuracy.proofs.PowerProduct.{unit_range, asked, product_arguments}
+use Rattle.accuracy.proofs.PowerProduct.{unit_range, product_arguments}
+use Rattle.accuracy.proofs.Law.{asked}
 use Rattle.accuracy.proofs.BinaryPolynomial as Six
 use Rattle.accuracy.proofs.DecimalPolynomial as Seven
 use Rattle.accuracy.proofs.BinaryTable as Binary

@@ -19,9 +19,8 @@ use Rattle.rounding.proofs.Range.{FmaLaw, ranged, ranged_finite}
 use Rattle.rounding.proofs.Scaled.{part, part₂, above, mul_part, fma_part}
 use Rattle.curves.specs.Steps.{double, times_power_value}
 use Rattle.curves.proofs.Decimal.{Ready, ready_range}
-use Rattle.curves.proofs.Law.{ranged_in}
-use Rattle.accuracy.specs.Arguments.{Asked}
 use Rattle.accuracy.specs.PowerArguments.{ProductArguments}
+use Rattle.accuracy.proofs.Law.{asked}
 use Rattle.accuracy.proofs.Horner.{Stage, horner}
 
 -- ---- five coefficients, and 1
@@ -31,10 +30,6 @@ unit = double 0x3ff0_0000_0000_0000
 pub unit_range : Ranged binary64 400 unit
 unfolding of_bits fits
 unit_range = (tt, inr (lit≤ tt, lit≤ tt))
-
--- a multiply-add of numbers in the range of the law is asked for within it
-pub asked : {x y z : Float} → Ranged binary64 400 x → Ranged binary64 400 y → Ranged binary64 400 z → Asked binary64 400 x y z
-asked {x} {y} {z} a b c = record { of_x = ranged_in binary64 399 x a; of_y = ranged_in binary64 399 y b; of_z = ranged_in binary64 399 z c }
 
 -- what is asked of the coefficients: their range, their sizes, and that two of them are not small
 pub record Coefficients (k₀ k₁ k₂ k₃ k₄ : Float) : Type 0 where

@@ -1,9 +1,8 @@
 -- A power of ten up to 10 ^ 10 is an f32, and the figure of an f64 within 2 ^ -42 of it is that f32.
 use Rattle.std.proofs.Common.{◌≡◌, ℕ, ◌+◌, ◌-◌, ◌*◌, ◌^◌, ◌<◌, ◌≤◌, Bool, false, T, eqb, ltb, [], ◌∷◌, replicate, pos, sym, refl, ap, ◌∙◌, subst, ap₂, inl, inr, le_trans, le_of_eq, le_of_lt, zero-lt-suc, arith, eqb→eq, ltb→lt, pow_pos, pow_mono, pow-add}
-use Rattle.std.specs.Float.{Float, nan, inf, fin, binary32, round_to_format}
+use Rattle.std.specs.Float.{Float, fin, binary32, round_to_format}
 use Rattle.std.specs.Float.Ieee.{fits, size}
 use Rattle.std.specs.Float.Ieee.Digits.{size-lt}
-use Rattle.std.specs.Float.Ieee.Exact.{HasValue}
 use Rattle.std.specs.Float.Ieee.Scale.{finite}
 use Rattle.std.proofs.lemmas.Bool.{cases_lt}
 use std.Quotient.{cls}
@@ -24,6 +23,7 @@ use Rattle.rounding.proofs.Distance.{same_number, apart_cls, abs_cls, abs_least,
 use Rattle.rounding.proofs.Held.{digits}
 use Rattle.rounding.proofs.Figure.{figure_nearest, figure_finite}
 use Rattle.rounding.proofs.Gaps.{Value, next_value}
+use Rattle.rounding.proofs.NearestValue.{sign_of_value}
 use Rattle.arithmetic.specs.Signs.{dist}
 use Rattle.curves.proofs.Checked as Checked
 
@@ -88,10 +88,6 @@ near_out g N b =
     omega arith
 
 -- ---- the figure of z
-sign_is : (y : Float) (t : Bool) (g l : ℕ) → HasValue y t g l → sign y ≡ t
-sign_is (fin s m e) t g l h = h.0
-sign_is _ _ _ _ h = absurd h
-
 pub ten_figure : (n : ℕ) → n ≤ 10 → (z : Float) → T (finite z) → (ofℕ (limitℕ binary32) ≤q absq (val z) → ⊥) → sign (round_to_format binary32 z) ≡ false → Bound (val z -q ofℕ (10 ^ n)) (dy 1 42 *q ofℕ (10 ^ n)) → T (finite (round_to_format binary32 z)) × Same (value (round_to_format binary32 z)) (whole (10 ^ n))
 unfolding norm ◌-q◌
 ten_figure n h z fz low plus b =
@@ -102,7 +98,7 @@ ten_figure n h z fz low plus b =
     let w = ten n in
     let d = digits binary32 y fy best.held.is_held in
     let g = d.q * 2 ^ d.j in
-    let s : d.s ≡ false = sym (sign_is y d.s g (2 ^ 149) d.how) ∙ plus in
+    let s : d.s ≡ false = sym (sign_of_value y d.s g (2 ^ 149) d.how) ∙ plus in
     let v : val y ≡ frac false g (2 ^ 149) (pow_pos 149) = value_is y d.s g (2 ^ 149) (pow_pos 149) d.how ∙ ap (λ (u : Bool). frac u g (2 ^ 149) (pow_pos 149)) s in
     let near : absq (val y -q val z) ≤q absq (val w -q val z) = nearer y w z (best.best w (record { is_finite = tt; is_held = ten_fits n h })) in
     let bw : Bound (val w -q val z) (dy 1 42 *q ofℕ N) = subst (λ (u : ℚ). Bound (u -q val z) (dy 1 42 *q ofℕ N)) (sym (ten_value n h)) (bound_turn (val z) (ofℕ N) b) in

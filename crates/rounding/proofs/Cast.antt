@@ -1,6 +1,6 @@
 -- A whole float as a signed integer: where it is in the range, the conversion loses nothing.
 use Rattle.std.proofs.Common.{◌≡◌, ℕ, ◌-◌, ◌*◌, ◌/◌, ◌^◌, ◌<◌, ◌≤◌, min, Bool, true, false, cond, T, ℤ, pos, neg_ℤ, sym, ap, ◌∙◌, subst, zero-lt-suc, mul-div_cancel, arith, pow_pos}
-use Rattle.std.specs.Float.{Float, nan, inf, fin}
+use Rattle.std.specs.Float.{Float, fin}
 use Rattle.std.specs.Float.Ieee.{up, down, lt, to_signed}
 use Rattle.std.specs.Float.Ieee.Fits.{down_pos}
 use Rattle.std.specs.Float.Ieee.Scale.{finite}

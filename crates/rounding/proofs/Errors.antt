@@ -1,6 +1,6 @@
 -- How far a rounded result is off, for whatever is nearest to its number.
 use Rattle.std.proofs.Common.{◌≡◌, ℕ, suc, ◌-◌, ◌*◌, ◌^◌, ◌<◌, ◌≤◌, Bool, true, false, not, T, [], ◌∷◌, ℤ, pos, sym, refl, ap, ◌∙◌, subst, ap₂, inl, inr, le_trans, le_of_eq, zero-lt-suc, arith, pow_pos}
-use Rattle.std.specs.Float.{Float, nan, inf, fin, Format, binary32, binary64}
+use Rattle.std.specs.Float.{Float, inf, Format, binary32, binary64}
 use Rattle.std.specs.Float.Ieee.{prec, emax, low, round, mul}
 use Rattle.std.specs.Float.Ieee.Exact.{HasValue}
 use Rattle.std.specs.Float.Ieee.Scale.{finite, grid}

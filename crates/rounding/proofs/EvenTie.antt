@@ -1,6 +1,6 @@
 -- Where another value of the format is as near as the result of `round`, the significand of the result is even. In whole numbers.
 use Rattle.std.proofs.Common.{◌≡◌, ℕ, zero, suc, ◌+◌, ◌-◌, ◌*◌, ◌/◌, ◌%◌, ◌^◌, ◌<◌, ◌≤◌, Bool, true, false, cond, ℤ, sym, refl, ap, ◌∙◌, subst, inl, inr, le_trans, le_of_eq, le_refl, mul-le-mul_right, mod-lt, mul_assoc, mul_comm, eq-zero-or-pos, le_antisymm, mul-lt-mul_of_pos_right, mul-pos, pow-suc, div-add-mod', mul-one, le_of_mul-le-mul_right, mul-div_cancel, mul_left_comm, arith, pow_pos, pow-add}
-use Rattle.std.specs.Float.{Float, nan, inf, fin, Format, binary32, binary64}
+use Rattle.std.specs.Float.{Float, fin, Format, binary32, binary64}
 use Rattle.std.specs.Float.Ieee.{prec, low, hid, top, up, down, size, nearest, to_bits}
 use Rattle.std.specs.Float.Ieee.Digits.{size-le}
 use Rattle.std.specs.Float.Ieee.Fits.{two, two-le_pos, down_pos}

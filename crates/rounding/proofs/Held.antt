@@ -1,6 +1,6 @@
 -- What a format holds: a value of at most prec digits, in units of the smallest; a multiple of the smallest; and the larger, the coarser.
 use Rattle.std.proofs.Common.{◌≡◌, ℕ, zero, suc, ◌+◌, ◌-◌, ◌*◌, ◌%◌, ◌^◌, ◌<◌, ◌≤◌, Bool, ◌&&◌, T, eqb, ltb, leb, ◌⊎◌, ℤ, pos, negsuc, sym, refl, ap, ◌∙◌, subst, inl, inr, le_trans, le_of_eq, lt_of_lt_of_le, lt_of_le_of_lt, mul_assoc, mul_comm, mul-le-mul, mul-lt-mul_of_pos_right, arith, ltb→lt, leb→le, pow_pos, pow_mono, pow-add, zero-le}
-use Rattle.std.specs.Float.{Float, nan, inf, fin, Format}
+use Rattle.std.specs.Float.{Float, fin, Format}
 use Rattle.std.specs.Float.Ieee.{prec, emax, low, up, down, fits}
 use Rattle.std.specs.Float.Ieee.Fits.{reach, down_pos, and_l, and_r}
 use Rattle.std.specs.Float.Ieee.Exact.{HasValue}

@@ -1,6 +1,6 @@
 -- From which number on a rounding gives an infinity: 2 ^ (emax + 1) less half a unit of the largest values, both ways.
-use Rattle.std.proofs.Common.{◌≡◌, ℕ, zero, suc, ◌+◌, ◌-◌, ◌*◌, ◌^◌, ◌<◌, ◌≤◌, Bool, true, false, T, ltb, [], ◌∷◌, pos, sym, refl, ap, ◌∙◌, subst, inl, inr, le_trans, le_of_eq, lt_of_lt_of_le, mul-le-mul_right, zero-lt-suc, mul_assoc, lt_of_not-le, mul-one, mul_right_comm, not-le_of_lt, le_of_mul-le-mul_right, arith, lit≤, ltb→lt, pow_pos}
-use Rattle.std.specs.Float.{Float, nan, inf, fin, Format, binary32, binary64}
+use Rattle.std.proofs.Common.{◌≡◌, ℕ, zero, suc, ◌+◌, ◌-◌, ◌*◌, ◌^◌, ◌<◌, ◌≤◌, Bool, false, T, ltb, [], ◌∷◌, pos, sym, refl, ap, ◌∙◌, subst, inl, inr, le_trans, le_of_eq, lt_of_lt_of_le, mul-le-mul_right, zero-lt-suc, mul_assoc, lt_of_not-le, mul-one, mul_right_comm, not-le_of_lt, le_of_mul-le-mul_right, arith, lit≤, ltb→lt, pow_pos}
+use Rattle.std.specs.Float.{Float, inf, Format, binary32, binary64}
 use Rattle.std.specs.Float.Ieee.{prec, emax, low, units, round, le}
 use Rattle.std.specs.Float.Ieee.Fits.{round_is}
 use Rattle.std.specs.Float.Ieee.Bits.{cond_no}

@@ -1,6 +1,6 @@
 -- Multiples of 2 ^ -k, and what is 0 or at least 2 ^ -k in size, through products, sums and roundings.
 use Rattle.std.proofs.Common.{◌≡◌, ℕ, suc, ◌+◌, ◌-◌, ◌*◌, ◌^◌, ◌<◌, ◌≤◌, Bool, true, false, cond, T, ltb, ◌⊎◌, [], ◌∷◌, ℤ, pos, negsuc, ◌+ℤ◌, ◌*ℤ◌, sym, refl, ap, ◌∙◌, subst, ap₂, inl, inr, le_trans, le_of_eq, mul-le-mul_right, zero-lt-suc, mul_assoc, mul_comm, eq-zero-or-pos, mul-le-mul, mul-le-mul_left, mul-pos, le_of_mul-le-mul_right, mul_left_comm, arith, ltb→lt, pow_pos, pow_mono, pow-add, le_of_lt}
-use Rattle.std.specs.Float.{Float, nan, inf, fin, Format}
+use Rattle.std.specs.Float.{Float, inf, fin, Format}
 use Rattle.std.specs.Float.Ieee.{prec, low, up, down, unlike, odd, units, round, mul}
 use Rattle.std.specs.Float.Ieee.Fits.{down_pos, round_is}
 use Rattle.std.specs.Float.Ieee.Order.{drop, kept}

@@ -1,7 +1,7 @@
 -- What is nearest to a number is what `round` gives, its sign apart; infinite exactly from the limit on.
 use Rattle.std.proofs.Common.{◌≡◌, ℕ, ◌+◌, ◌-◌, ◌*◌, ◌/◌, ◌^◌, ◌<◌, ◌≤◌, Bool, true, false, cond, not, T, ◌⊎◌, ℤ, pos, ◌*ℤ◌, sym, refl, ap, ◌∙◌, subst, inl, inr, le_trans, le_of_eq, le_of_lt, zero-lt-suc, mul-one, not-le_of_lt, arith, T_not, pow_pos}
 use Rattle.std.specs.Int.Signed.{le_z, le_z_yes}
-use Rattle.std.specs.Float.{Float, nan, inf, fin, Format}
+use Rattle.std.specs.Float.{Float, inf, fin, Format}
 use Rattle.std.specs.Float.Ieee.{prec, low, hid, top, size, round, fits, of_bits, to_bits}
 use Rattle.std.specs.Float.Ieee.Bits.{of_bits-to_bits}
 use Rattle.std.specs.Float.Ieee.Exact.{HasValue}

@@ -1,6 +1,6 @@
 -- What `round` gives is the nearest value of the format, ties to even, as the definitions have it.
 use Rattle.std.proofs.Common.{◌≡◌, ℕ, ◌*◌, ◌%◌, ◌^◌, ◌<◌, ◌≤◌, Bool, true, false, not, T, ◌⊎◌, pos, sym, refl, ap, ◌∙◌, subst, ap₂, inl, inr, le_of_lt, lt_irrefl, eq-zero-or-pos, le_antisymm, mul-pos, arith, pow_pos}
-use Rattle.std.specs.Float.{Float, nan, inf, fin, Format}
+use Rattle.std.specs.Float.{Float, fin, Format}
 use Rattle.std.specs.Float.Ieee.{prec, low, round, to_bits}
 use Rattle.std.specs.Float.Ieee.Fits.{round-fits}
 use Rattle.std.specs.Float.Ieee.Exact.{HasValue}

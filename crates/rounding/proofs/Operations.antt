@@ -75,8 +75,7 @@ mul_finite _ _ _ t = absurd t
 mul_nan : (f : Format) (x y : Float) → T (is_nan x || is_nan y) → mul f x y ≡ nan
 unfolding mul is_nan
 mul_nan f nan y t = refl
-mul_nan f (inf s) nan t = refl
-mul_nan f (fin s m e) nan t = refl
+mul_nan f _ nan t = refl
 mul_nan _ _ _ t = absurd t
 
 mul_invalid : (f : Format) (x y : Float) → T (infinite x && is_zero y || is_zero x && infinite y) → mul f x y ≡ nan
@@ -149,8 +148,7 @@ add_finite _ _ _ t = absurd t
 add_nan : (f : Format) (x y : Float) → T (is_nan x || is_nan y) → add f x y ≡ nan
 unfolding add is_nan
 add_nan f nan y t = refl
-add_nan f (inf s) nan t = refl
-add_nan f (fin s m e) nan t = refl
+add_nan f _ nan t = refl
 add_nan _ _ _ t = absurd t
 
 add_differ : (f : Format) (x y : Float) → T (infinite x && infinite y) → T (unlike (sign x) (sign y)) → add f x y ≡ nan
@@ -209,12 +207,10 @@ nan_last f x = add_nan f x nan (or_r (is_nan x) true tt)
 fused_nan : (f : Format) (x y z : Float) → T (is_nan x || is_nan y || is_nan z) → float_mul_add f x y z ≡ nan
 unfolding float_mul_add is_nan mul add
 fused_nan f nan y z t = refl
-fused_nan f (inf s) nan z t = refl
+fused_nan f _ nan z t = refl
 fused_nan f (inf s) (inf u) nan t = refl
-fused_nan f (inf s) (fin u n d) nan t = nan_last f (mul f (inf s) (fin u n d))
-fused_nan f (fin s m e) nan z t = refl
-fused_nan f (fin s m e) (inf u) nan t = nan_last f (mul f (fin s m e) (inf u))
 fused_nan f (fin s m e) (fin u n d) nan t = refl
+fused_nan f x y nan t = nan_last f (mul f x y)
 fused_nan _ _ _ _ t = absurd t
 
 some_infinite : (x y : Float) → T (infinite x && is_zero y || is_zero x && infinite y) → T (infinite x || infinite y)

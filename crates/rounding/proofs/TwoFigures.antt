@@ -1,7 +1,7 @@
 -- Two results of numbers that are both within e of v: equal, or neighbouring with v within e of their midpoint.
 use Rattle.std.proofs.Common.{◌≡◌, ℕ, ◌+◌, ◌*◌, ◌^◌, ◌<◌, ◌≤◌, Bool, true, false, not, T, eqb, ◌⊎◌, [], ◌∷◌, ℤ, pos, ◌+ℤ◌, ◌*ℤ◌, sym, refl, ap, ◌∙◌, subst, ap₂, inl, inr, true≢false, le_of_lt, mul-le-mul_right, zero-lt-suc, eq-zero-or-pos, mul-pos, zero-mul, arith, pow_pos}
 use Rattle.std.specs.Int.Signed.{le_z}
-use Rattle.std.specs.Float.{Float, nan, inf, fin, Format}
+use Rattle.std.specs.Float.{Float, fin, Format}
 use Rattle.std.specs.Float.Ieee.{low, up, down}
 use Rattle.std.specs.Float.Ieee.Fits.{up_pos}
 use Rattle.std.specs.Float.Ieee.Exact.{HasValue}
