@@ -63,23 +63,20 @@ unfolding is_nan
 numberless (fin s m e) t = tt
 numberless _ t = absurd t
 
+nn_sized : (p : ℕ) → T (nn (sized p))
+nn_sized p = nn_frac (size_of p) (2 ^ 149) (pow_pos 149)
+
 pub sized_bound : (x : Float) → T (fits binary32 x) → T (finite x) → Bound (val x) (sized (magnitude x))
 sized_bound x w t = elim (signed_of x w t) [
-  | positive l m v ↦ subst (λ (u : ℚ). Bound u (sized (magnitude x))) (sym (v ∙ ap (λ (n : ℕ). sized n) (sym m))) (bound_self nn_size)
-  | negative l m v ↦ subst (λ (u : ℚ). Bound u (sized (magnitude x))) (sym v) (bound_neg (bound_self nn_size))
+  | positive l m v ↦ subst (λ (u : ℚ). Bound u (sized (magnitude x))) (sym (v ∙ ap (λ (n : ℕ). sized n) (sym m))) (bound_self (nn_sized (magnitude x)))
+  | negative l m v ↦ subst (λ (u : ℚ). Bound u (sized (magnitude x))) (sym v) (bound_neg (bound_self (nn_sized (magnitude x))))
 ]
-  where
-    nn_size : T (nn (sized (magnitude x)))
-    nn_size = nn_frac (size_of (magnitude x)) (2 ^ 149) (pow_pos 149)
 
 pub sized_size : (x : Float) → T (fits binary32 x) → T (finite x) → absq (val x) ≡ sized (magnitude x)
 sized_size x w t = elim (signed_of x w t) [
-  | positive l m v ↦ ap absq (v ∙ ap (λ (n : ℕ). sized n) (sym m)) ∙ abs_nn (sized (magnitude x)) nn_size
+  | positive l m v ↦ ap absq (v ∙ ap (λ (n : ℕ). sized n) (sym m)) ∙ abs_nn (sized (magnitude x)) (nn_sized (magnitude x))
   | negative l m v ↦ ap absq (v ∙ frac_neg (size_of (magnitude x)) (2 ^ 149) (pow_pos 149)) ∙ abs_frac true (size_of (magnitude x)) (2 ^ 149) (pow_pos 149)
 ]
-  where
-    nn_size : T (nn (sized (magnitude x)))
-    nn_size = nn_frac (size_of (magnitude x)) (2 ^ 149) (pow_pos 149)
 
 -- a zero of either sign
 pub zero_pattern : (s : Bool) (m : ℕ) (e : ℤ) → m ≡ 0 → magnitude (fin s m e) ≡ 0

@@ -197,32 +197,18 @@ even_digits f a c C e = elim (cases_lt (kept p n c) (2 ^ p)) [
     small : size g ≤ p + k → size g - p ≤ k
     small h = omega arith
 
-pattern_odd : (f : Format) (t : Bool) (z x : ℕ) → x % 2 ≡ 1 → (cond t (top f) 0 + z * hid f + x) % 2 ≡ 1
-pattern_odd binary32 false z x h = omega arith
-pattern_odd binary32 true z x h = omega arith
-pattern_odd binary64 false z x h = omega arith
-pattern_odd binary64 true z x h = omega arith
-
-pattern_even : (f : Format) (t : Bool) (z x : ℕ) → x % 2 ≡ 0 → (cond t (top f) 0 + z * hid f + x) % 2 ≡ 0
-pattern_even binary32 false z x h = omega arith
-pattern_even binary32 true z x h = omega arith
-pattern_even binary64 false z x h = omega arith
-pattern_even binary64 true z x h = omega arith
+pattern_parity : (f : Format) (t : Bool) (z x : ℕ) → (cond t (top f) 0 + z * hid f + x) % 2 ≡ x % 2
+pattern_parity binary32 false z x = omega arith
+pattern_parity binary32 true z x = omega arith
+pattern_parity binary64 false z x = omega arith
+pattern_parity binary64 true z x = omega arith
 
 -- how many smallest values a float has
 pub steps_are : (f : Format) (t : Bool) (m : ℕ) (e : ℤ) (s : Bool) (g : ℕ) → HasValue (fin t m e) s g (2 ^ low f) → m * up e * 2 ^ low f / down e ≡ g
 steps_are f t m e s g h = ap (λ (k : ℕ). k / down e) h.1 ∙ mul-div_cancel g (down_pos e)
 
-pub even_bits : (f : Format) (x : Float) (s : Bool) (g : ℕ) → HasValue x s g (2 ^ low f) → g / 2 ^ (size g - prec f) % 2 ≡ 0 → to_bits f x % 2 ≡ 0
+-- the pattern of a float is even where its significand is
+pub bits_parity : (f : Format) (x : Float) (s : Bool) (g : ℕ) → HasValue x s g (2 ^ low f) → to_bits f x % 2 ≡ g / 2 ^ (size g - prec f) % 2
 unfolding to_bits
-even_bits f (fin t m d) s g h e =
-    subst (λ (n : ℕ). (cond t (top f) 0 + (size n - prec f) * hid f + n / 2 ^ (size n - prec f)) % 2 ≡ 0) (sym (steps_are f t m d s g h))
-    (pattern_even f t (size g - prec f) (g / 2 ^ (size g - prec f)) e)
-even_bits _ _ _ _ h _ = absurd h
-
-pub odd_bits : (f : Format) (x : Float) (s : Bool) (g : ℕ) → HasValue x s g (2 ^ low f) → g / 2 ^ (size g - prec f) % 2 ≡ 1 → to_bits f x % 2 ≡ 1
-unfolding to_bits
-odd_bits f (fin t m d) s g h e =
-    subst (λ (n : ℕ). (cond t (top f) 0 + (size n - prec f) * hid f + n / 2 ^ (size n - prec f)) % 2 ≡ 1) (sym (steps_are f t m d s g h))
-    (pattern_odd f t (size g - prec f) (g / 2 ^ (size g - prec f)) e)
-odd_bits _ _ _ _ h _ = absurd h
+bits_parity f (fin t m d) s g h = rw (steps_are f t m d s g h) (pattern_parity f t (size g - prec f) (g / 2 ^ (size g - prec f)))
+bits_parity _ _ _ _ h = absurd h

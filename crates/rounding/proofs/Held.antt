@@ -13,14 +13,15 @@ use Rattle.rounding.proofs.PowersOfTwo.{split_pow, pow_under, pow_le}
 use Rattle.rounding.proofs.Multiple.{Mult, mult_more, Away, away_at}
 
 -- ---- what `fits` says
-pub fit_digits : (f : Format) (s : Bool) (m : ℕ) (e : ℤ) → T (fits f (fin s (suc m) e)) → (suc m < 2 ^ prec f) × (down e ≤ 2 ^ low f)
+pub fit_digits : (f : Format) (s : Bool) (m : ℕ) (e : ℤ) → T (fits f (fin s (suc m) e)) → (suc m < 2 ^ prec f) × (down e ≤ 2 ^ low f) × (suc m * up e < 2 ^ suc (emax f) * down e)
 unfolding fits
 fit_digits f s m e t =
     let a : Bool = eqb (suc m % 2) 1 in
     let b : Bool = ltb (suc m) (2 ^ prec f) in
     let c : Bool = leb (down e) (2 ^ low f) in
     let d : Bool = ltb (suc m * up e) (2 ^ suc (emax f) * down e) in
-    (ltb→lt (suc m) (2 ^ prec f) (and_r a b (and_l (a && b) c (and_l (a && b && c) d t))), leb→le (down e) (2 ^ low f) (and_r (a && b) c (and_l (a && b && c) d t)))
+    let u = and_l (a && b && c) d t in
+    (ltb→lt (suc m) (2 ^ prec f) (and_r a b (and_l (a && b) c u)), leb→le (down e) (2 ^ low f) (and_r (a && b) c u), ltb→lt (suc m * up e) (2 ^ suc (emax f) * down e) (and_r (a && b && c) d t))
 
 -- ---- what a format holds, in its smallest values
 pub record Digits (f : Format) (x : Float) : Type 0 where
@@ -31,15 +32,6 @@ pub record Digits (f : Format) (x : Float) : Type 0 where
   pub under : q * 2 ^ j < overflow f
   pub how : HasValue x s (q * 2 ^ j) (2 ^ low f)
 
-fit_top : (f : Format) (s : Bool) (m : ℕ) (e : ℤ) → T (fits f (fin s (suc m) e)) → suc m * up e < 2 ^ suc (emax f) * down e
-unfolding fits
-fit_top f s m e t =
-    let a : Bool = eqb (suc m % 2) 1 in
-    let b : Bool = ltb (suc m) (2 ^ prec f) in
-    let c : Bool = leb (down e) (2 ^ low f) in
-    let d : Bool = ltb (suc m * up e) (2 ^ suc (emax f) * down e) in
-    ltb→lt (suc m * up e) (2 ^ suc (emax f) * down e) (and_r (a && b && c) d t)
-
 pub digits : (f : Format) (x : Float) → T (finite x) → T (fits f x) → Digits f x
 digits f (fin s zero e) t w = record { s = s; q = 0; j = 0; few = pow_pos (prec f); under = pow_pos (low f + suc (emax f)); how = (refl, omega arith) }
 digits f (fin s (suc m) (pos k)) t w = record {
@@ -48,7 +40,7 @@ digits f (fin s (suc m) (pos k)) t w = record {
   j = k + low f;
   few = (fit_digits f s m (pos k) w).0;
   under = subst (λ (z : ℕ). z < overflow f) (mul_assoc (suc m) (2 ^ k) (2 ^ low f) ∙ ap (λ (z : ℕ). suc m * z) (sym (pow-add 2 k (low f))))
-      (lt_of_lt_of_le (mul-lt-mul_of_pos_right (fit_top f s m (pos k) w) (pow_pos (low f))) (le_of_eq ((omega arith) ∙ sym (pow-add 2 (low f) (suc (emax f))))));
+      (lt_of_lt_of_le (mul-lt-mul_of_pos_right (fit_digits f s m (pos k) w).2 (pow_pos (low f))) (le_of_eq ((omega arith) ∙ sym (pow-add 2 (low f) (suc (emax f))))));
   how = (refl, mul_assoc (suc m) (2 ^ k) (2 ^ low f) ∙ ap (λ (z : ℕ). suc m * z) (sym (pow-add 2 k (low f))) ∙ omega arith);
 }
 digits f (fin s (suc m) (negsuc k)) t w = record {

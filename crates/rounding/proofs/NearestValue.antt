@@ -20,7 +20,7 @@ use Rattle.rounding.proofs.HalfUnit.{round_value}
 use Rattle.rounding.proofs.Best.{dist, grid_best}
 use Rattle.rounding.proofs.Held.{Digits, digits}
 use Rattle.rounding.proofs.Limit.{limitℕ, overflow_infinite, round_infinite, round_finite}
-use Rattle.rounding.proofs.EvenTie.{grid_tie, other_odd, even_digits, even_bits, odd_bits}
+use Rattle.rounding.proofs.EvenTie.{grid_tie, other_odd, even_digits, bits_parity}
 use Rattle.rounding.proofs.Distance.{at_most_in, at_most_out, same_number, abs_cls, abs_frac, apart_le, gap, nearer_in, nearer_out}
 
 -- ---- the sign of a result is the sign that was handed to `round`
@@ -114,11 +114,11 @@ module _ (f : Format) (s : Bool) (a c : ℕ) (C : 0 < c) (o : grid f a c < overf
     ties_even : apart (value w) q ≼ apart (value x) q → (Same (value w) (value x) → ⊥) → to_bits f x % 2 ≡ 0
     ties_even k other =
         let b = as_near k in
-        even_bits f x s g (round_value f s a c o) (even_digits f a c C (grid_tie f a c d.q d.j C (le_of_lt d.few) (tie_nearer d.s s (g * c) (h * c) n b) (λ u. other (same_number (value w) (value x) (same u b)))))
+        bits_parity f x s g (round_value f s a c o) ∙ even_digits f a c C (grid_tie f a c d.q d.j C (le_of_lt d.few) (tie_nearer d.s s (g * c) (h * c) n b) (λ u. other (same_number (value w) (value x) (same u b))))
 
     -- another value that is as near is odd
     other_is_odd : apart (value w) q ≼ apart (value x) q → (h ≡ g → ⊥) → to_bits f w % 2 ≡ 1
-    other_is_odd k other = odd_bits f w d.s h d.how (other_odd f a c d.q d.j C (le_of_lt d.few) (tie_nearer d.s s (g * c) (h * c) n (as_near k)) other)
+    other_is_odd k other = bits_parity f w d.s h d.how ∙ other_odd f a c d.q d.j C (le_of_lt d.few) (tie_nearer d.s s (g * c) (h * c) n (as_near k)) other
 
   pub round_best : Best f q x
   round_best = record {

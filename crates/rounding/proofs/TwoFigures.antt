@@ -201,29 +201,16 @@ same_figure f z z' e x y g k t u a b hx hy s =
     same_sign true false = inr refl
     same_sign true true = inl refl
 
+    none : (g l : ℕ) (L : 0 < l) → frac true g l L ≡ frac false g l L → g ≡ 0
+    none g l L e =
+        let h : g * 1 ≤ 0 * l = unfold ofℤ nn in frac_le_out g l 0 1 L (zero-lt-suc 0) (subst (λ (z : ℚ). z ≤q ofℤ (pos 0)) e (not_above g l L (ofℤ (pos 0)) tt)) in
+        omega arith
+
     opposite_zero : (t u : Bool) → t ≡ not u → (g l : ℕ) (L : 0 < l) → frac t g l L ≡ frac u g l L → g ≡ 0
     opposite_zero false false w g l L e = absurd (true≢false (sym w))
     opposite_zero true true w g l L e = absurd (true≢false w)
-    opposite_zero false true w g l L e = half_none g l L (below_zero g l L (subst (λ (z : ℚ). z ≤q ofℤ (pos 0)) (sym e) (not_above g l L (ofℤ (pos 0)) nought)))
-      where
-        nought : T (nn (ofℤ (pos 0)))
-        nought = unfold nn ofℤ in tt
-
-        below_zero : (g l : ℕ) (L : 0 < l) → frac false g l L ≤q ofℤ (pos 0) → g * 1 ≤ 0 * l
-        below_zero g l L h = unfold ofℤ in frac_le_out g l 0 1 L (zero-lt-suc 0) h
-
-        half_none : (g l : ℕ) → 0 < l → g * 1 ≤ 0 * l → g ≡ 0
-        half_none g l L h = omega arith
-    opposite_zero true false w g l L e = half_none g l L (below_zero g l L (subst (λ (z : ℚ). z ≤q ofℤ (pos 0)) e (not_above g l L (ofℤ (pos 0)) nought)))
-      where
-        nought : T (nn (ofℤ (pos 0)))
-        nought = unfold nn ofℤ in tt
-
-        below_zero : (g l : ℕ) (L : 0 < l) → frac false g l L ≤q ofℤ (pos 0) → g * 1 ≤ 0 * l
-        below_zero g l L h = unfold ofℤ in frac_le_out g l 0 1 L (zero-lt-suc 0) h
-
-        half_none : (g l : ℕ) → 0 < l → g * 1 ≤ 0 * l → g ≡ 0
-        half_none g l L h = omega arith
+    opposite_zero false true w g l L e = none g l L (sym e)
+    opposite_zero true false w g l L e = none g l L e
 
 pub figures : (f : Format) (q p : Fraction) (v e : ℚ) (x y : Float) → Nearest f q x → Nearest f p y → T (finite x) → T (finite y) → Bound (cls q -q v) e → Bound (cls p -q v) e
     → (cls (unit f x) ≤q e +q e → ⊥) → (cls (unit f y) ≤q e +q e → ⊥) → Figures f (cls q) (cls p) e x y
