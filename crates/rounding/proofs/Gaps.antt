@@ -9,7 +9,6 @@ use Rattle.std.specs.Float.Ieee.Order.{drop, kept}
 use Rattle.std.specs.Float.Ieee.Scale.{grid}
 use Rattle.std.proofs.lemmas.Int.{ints}
 use Rattle.std.proofs.lemmas.Bool.{cases_lt}
-use borrow.Author.Differences.{le_in}
 use Rattle.rounding.specs.Values.{signed}
 use Rattle.rounding.proofs.Narrow.{unit_of, kept_le}
 use Rattle.rounding.proofs.PowersOfTwo.{split_times, few_zeros}
@@ -89,20 +88,11 @@ pub data Spread (f : Format) (z w : ℤ) (g k : ℕ) : Type 0 where
   upper : T (le_z (z +ℤ pos (unit_of f k + unit_of f k)) w) → Spread f z w g k
   across : T (le_z (z +ℤ pos (unit_of f g + unit_of f k)) w) → Spread f z w g k
 
-add_pos : (a b c : ℕ) → a + b ≤ c → T (le_z (pos a +ℤ pos b) (pos c))
-add_pos a b c h = le_in (pos a +ℤ pos b) (pos c) (omega (arith, ints))
-
-add_neg : (a b c : ℕ) → a + b ≤ c → T (le_z (neg_ℤ (pos c) +ℤ pos b) (neg_ℤ (pos a)))
-add_neg a b c h = le_in (neg_ℤ (pos c) +ℤ pos b) (neg_ℤ (pos a)) (omega (arith, ints))
-
-add_across : (a b c d : ℕ) → b ≤ a → c ≤ d → T (le_z (neg_ℤ (pos a) +ℤ pos (b + c)) (pos d))
-add_across a b c d h k = le_in (neg_ℤ (pos a) +ℤ pos (b + c)) (pos d) (omega (arith, ints))
-
 module _ (f : Format) (g h k : ℕ) (vg : Value f g) (vh : Value f h) (vk : Value f k) where
   -- the outer sizes g and k with signs t and u, and h with the sign r strictly between
   pub spread : (t r u : Bool) → T (not (le_z (signed r h) (signed t g))) → T (not (le_z (signed u k) (signed r h))) → Spread f (signed t g) (signed u k) g k
-  spread false false false a b = lower (add_pos g (unit_of f g + unit_of f g) k (two_units f g h k vg vh vk (omega (arith, ints)) (omega (arith, ints))))
-  spread true true true a b = upper (add_neg k (unit_of f k + unit_of f k) g (two_units f k h g vk vh vg (omega (arith, ints)) (omega (arith, ints))))
+  spread false false false a b = lower (omega (arith, ints, two_units f g h k vg vh vk (omega (arith, ints)) (omega (arith, ints))))
+  spread true true true a b = upper (omega (arith, ints, two_units f k h g vk vh vg (omega (arith, ints)) (omega (arith, ints))))
   spread false true u a b = absurd (omega (arith, ints))
   spread false false true a b = absurd (omega (arith, ints))
   spread true false true a b = absurd (omega (arith, ints))
@@ -113,7 +103,7 @@ module _ (f : Format) (g h k : ℕ) (vg : Value f g) (vh : Value f h) (vk : Valu
     ]
     | inr p ↦ elim (eq-zero-or-pos k) [
       | inl y ↦ to_zero r y a b
-      | inr y ↦ across (add_across g (unit_of f g) (unit_of f k) k (unit_under f g vg p) (unit_under f k vk y))
+      | inr y ↦ across (omega (arith, ints, unit_under f g vg p, unit_under f k vk y))
     ]
   ]
     where
@@ -123,16 +113,8 @@ module _ (f : Format) (g h k : ℕ) (vg : Value f g) (vh : Value f h) (vk : Valu
 
       from_zero : (r : Bool) → g ≡ 0 → T (not (le_z (signed r h) (neg_ℤ (pos g)))) → T (not (le_z (pos k) (signed r h))) → Spread f (neg_ℤ (pos g)) (pos k) g k
       from_zero true z a b = absurd (omega (arith, ints))
-      from_zero false z a b =
-          lower (go (unit_of f g + unit_of f g) (two_units f g h k vg vh vk (omega (arith, ints)) (omega (arith, ints))))
-        where
-          go : (x : ℕ) → g + x ≤ k → T (le_z (neg_ℤ (pos g) +ℤ pos x) (pos k))
-          go x l = le_in (neg_ℤ (pos g) +ℤ pos x) (pos k) (omega (arith, ints))
+      from_zero false z a b = lower (omega (arith, ints, two_units f g h k vg vh vk (omega (arith, ints)) (omega (arith, ints))))
 
       to_zero : (r : Bool) → k ≡ 0 → T (not (le_z (signed r h) (neg_ℤ (pos g)))) → T (not (le_z (pos k) (signed r h))) → Spread f (neg_ℤ (pos g)) (pos k) g k
       to_zero false y a b = absurd (omega (arith, ints))
-      to_zero true y a b =
-          upper (go (unit_of f k + unit_of f k) (two_units f k h g vk vh vg (omega (arith, ints)) (omega (arith, ints))))
-        where
-          go : (x : ℕ) → k + x ≤ g → T (le_z (neg_ℤ (pos g) +ℤ pos x) (pos k))
-          go x l = le_in (neg_ℤ (pos g) +ℤ pos x) (pos k) (omega (arith, ints))
+      to_zero true y a b = upper (omega (arith, ints, two_units f k h g vk vh vg (omega (arith, ints)) (omega (arith, ints))))
