@@ -8,7 +8,6 @@ use Rattle.std.specs.Float.Ieee.Fits.{down_pos, and_l, and_r, and_i, eq→eqb}
 use Rattle.std.specs.Float.Ieee.Scale.{finite}
 use Rattle.std.proofs.Math.Nat.{div-add-mod, mul-mod_left}
 use Rattle.std.proofs.lemmas.Int.{ints}
-use borrow.Author.Differences.{le_in}
 use std.Quotient.{cls}
 use Rattle.exact.specs.Fraction.{Same, integer}
 use Rattle.exact.specs.Logarithm.{binary}
@@ -115,7 +114,7 @@ whole_in x k l h t e =
     (and_i (is_whole x) (le_z (negsuc 148) (to_signed 31 x) && le_z (to_signed 31 x) (pos 127)) (no_rest x k t e) (and_i (le_z (negsuc 148) (to_signed 31 x)) (le_z (to_signed 31 x) (pos 127)) (subst (λ (z : ℤ). T (le_z (negsuc 148) z)) (sym c) l.le) (subst (λ (z : ℤ). T (le_z z (pos 127))) (sym c) h.le)), c)
   where
     size : (k : ℤ) → nat_abs k ≤ 200 → Bound (ofℤ k) (ofℕ 200)
-    size k s = unfold ofℤ ofℕ -q◌ in record { hi = leq_in (integer k) (integer (pos 200)) (le_in (k *ℤ pos 1) (pos 200) (omega (arith, ints))); lo = leq_in (integer (negsuc 199)) (integer k) (le_in (negsuc 199) (k *ℤ pos 1) (omega (arith, ints))) }
+    size k s = unfold ofℤ ofℕ -q◌ in record { hi = leq_in (integer k) (integer (pos 200)) (omega (arith, ints)); lo = leq_in (integer (negsuc 199)) (integer k) (omega (arith, ints)) }
 
     no_rest : (x : Float) (k : ℤ) → T (finite x) → Same (value x) (integer k) → T (is_whole x)
     no_rest (fin s m d) k t e = unfold is_whole in eq→eqb (ap (λ (n : ℕ). n % down d) (sym (mul-one (m * up d)) ∙ sym (signed_size s (m * up d * 1)) ∙ ap nat_abs (sym (signed_mul s (m * up d) 1) ∙ e) ∙ size_mul k (down d)) ∙ mul-mod_left (nat_abs k) (down d))

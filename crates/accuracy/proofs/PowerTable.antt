@@ -4,7 +4,6 @@ use Rattle.std.specs.Float.{Float, binary64}
 use Rattle.std.specs.Float.Ieee.{of_bits}
 use Rattle.std.specs.Float.Ieee.Scale.{finite}
 use Rattle.std.proofs.lemmas.Int.{ints}
-use borrow.Author.Differences.{le_in}
 use std.Quotient.{cls}
 use Rattle.exact.specs.Logarithm.{Base, binary}
 use Rattle.exact.proofs.Ring.{con, ◌⊕◌, ◌⊖◌, ◌⊗◌, ⊝, norm}
@@ -130,7 +129,7 @@ power_range (negsuc h) s = (
 
 whole_size : (h : ℤ) → nat_abs h ≤ 159 → Bound (ofℤ h) (ofℕ 160)
 unfolding ofℤ ofℕ -q◌
-whole_size h s = record { hi = leq_in _ _ (le_in (h *ℤ pos 1) (pos 160) (omega (arith, ints))); lo = leq_in _ _ (le_in (negsuc 159) (h *ℤ pos 1) (omega (arith, ints))) }
+whole_size h s = record { hi = leq_in _ _ (omega (arith, ints)); lo = leq_in _ _ (omega (arith, ints)) }
 
 -- a whole number over c, in whole parts and a rest
 pub part_split : (c : ℕ) (C : 0 < c) (h : ℤ) (i : ℕ) → fr (pos c *ℤ h +ℤ pos i) c C ≡ ofℤ h +q fr (pos i) c C

@@ -5,7 +5,6 @@ use Rattle.std.specs.Float.{Float, binary64}
 use Rattle.std.specs.Float.Ieee.{mul, of_bits}
 use Rattle.std.specs.Float.Ieee.Scale.{finite}
 use Rattle.std.proofs.lemmas.Int.{ints}
-use borrow.Author.Differences as D
 use Rattle.exact.proofs.Ring.{con, ◌⊕◌, ◌⊖◌, ◌⊗◌, ⊝, norm}
 use Rattle.exact.proofs.Integer.{x₀, x₁, x₂, x₃, x₄}
 use Rattle.exact.proofs.Rational.{ℚ, ◌+q◌, ◌*q◌, -q◌, ◌-q◌, ofℤ, qring}
@@ -70,10 +69,10 @@ unfolding ofℕ ofℤ -q◌
 whole_size i h = record { hi = leq_in _ _ above; lo = leq_in _ _ below }
   where
     above : T (le_z ((pos i -ℤ pos 104) *ℤ pos 1) (pos 104 *ℤ pos 1))
-    above = D.le_in ((pos i -ℤ pos 104) *ℤ pos 1) (pos 104) (omega (arith, ints))
+    above = omega (arith, ints)
 
     below : T (le_z (negsuc 103) ((pos i -ℤ pos 104) *ℤ pos 1))
-    below = D.le_in (negsuc 103) ((pos i -ℤ pos 104) *ℤ pos 1) (omega (arith, ints))
+    below = omega (arith, ints)
 
 pub part_size : (i : ℕ) → i < 128 → Bound (part_arg i) (ofℕ 1)
 unfolding ofℕ ofℤ -q◌

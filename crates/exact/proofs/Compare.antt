@@ -2,7 +2,7 @@
 use Rattle.std.proofs.Common.{◌≡◌, refl, sym, ap, ap₂, subst, [], ◌∷◌, ℕ, suc, ◌+◌, ◌*◌, ◌^◌, ◌≤◌, ◌<◌, mul-le-mul_right, arith, T, le→leb, pow_pos, pow-add, pow_mono, ℤ, pos, negsuc, ◌+ℤ◌, ◌*ℤ◌, neg_ℤ, nat_abs}
 use Rattle.std.specs.Int.Signed.{le_z, non_neg}
 use Rattle.std.proofs.lemmas.Int.{ints}
-use borrow.Author.Differences.{le_in, le_T, product_is, sum_is_lem, neg_is, not_negative_in, not_negative_out}
+use borrow.Author.Differences.{le_in, le_T, product_is, neg_is}
 use std.Quotient.{cls}
 use Rattle.exact.specs.Fraction.{Fraction, fraction, integer, whole, part, plus, times, opposite, absolute, difference, ◌≼◌}
 use Rattle.exact.proofs.Ring.{◌⊕◌, ◌⊗◌, ⊝, norm}
@@ -50,14 +50,14 @@ unfolding nn ◌-q◌ ◌+q◌ -q◌
 leq_in a b t =
     let x = a.num *ℤ pos b.den in
     let y = b.num *ℤ pos a.den in
-    record { le = subst (λ (z : ℤ). T (non_neg z)) (sym (minus_of a b)) (not_negative_in (y +ℤ neg_ℤ x) (omega (arith, sum_is_lem y (neg_ℤ x), neg_is x, le_T x y t))) }
+    record { le = subst (λ (z : ℤ). T (non_neg z)) (sym (minus_of a b)) (omega (arith, ints)) }
 
 pub leq_out : (a b : Fraction) → cls a ≤q cls b → T (le_z (a.num *ℤ pos b.den) (b.num *ℤ pos a.den))
 unfolding nn ◌-q◌ ◌+q◌ -q◌
 leq_out a b h =
     let x = a.num *ℤ pos b.den in
     let y = b.num *ℤ pos a.den in
-    le_in x y (omega (arith, sum_is_lem y (neg_ℤ x), neg_is x, not_negative_out (y +ℤ neg_ℤ x) (subst (λ (z : ℤ). T (non_neg z)) (minus_of a b) h.le)))
+    omega (arith, ints, subst (λ (z : ℤ). T (non_neg z)) (minus_of a b) h.le)
 
 pub below_in : {a b : Fraction} {x y : ℚ} → cls a ≡ x → cls b ≡ y → a ≼ b → x ≤q y
 below_in {a} {b} {x} {y} e f h = subst (λ (u : ℚ). u ≤q y) e (subst (λ (v : ℚ). cls a ≤q v) f (leq_in a b h.le))
@@ -74,8 +74,8 @@ unfolding -q◌
 bound_abs z =
     let p = z.num in
     record {
-      hi = leq_in _ _ (scale_le p (pos (nat_abs p)) z.den (le_in p (pos (nat_abs p)) (omega (arith, ints))));
-      lo = leq_in _ _ (scale_le (neg_ℤ (pos (nat_abs p))) p z.den (le_in (neg_ℤ (pos (nat_abs p))) p (omega (arith, ints))));
+      hi = leq_in _ _ (scale_le p (pos (nat_abs p)) z.den (omega (arith, ints)));
+      lo = leq_in _ _ (scale_le (neg_ℤ (pos (nat_abs p))) p z.den (omega (arith, ints)));
     }
 
 pub abs_nn : (z : Fraction) → T (nn (cls (absolute z)))

@@ -1,9 +1,8 @@
 -- The sum at p / q as one fraction, computed in one pass, and what one test at one n says of every sum from there on.
-use Rattle.std.proofs.Common.{◌≡◌, refl, sym, ap, ap₂, ◌∙◌, subst, Bool, [], ◌∷◌, ℕ, zero, suc, ◌+◌, ◌*◌, ◌≤◌, ◌<◌, zero-lt-suc, mul-pos, mul-le-mul_right, arith, T, leb, leb→le, le→leb, ℤ, pos, negsuc, ◌+ℤ◌, ◌-ℤ◌, ◌*ℤ◌, neg_ℤ, nat_abs}
+use Rattle.std.proofs.Common.{◌≡◌, refl, sym, ap, ap₂, ◌∙◌, subst, Bool, [], ◌∷◌, ℕ, zero, suc, ◌+◌, ◌*◌, ◌≤◌, ◌<◌, zero-lt-suc, mul-pos, mul-le-mul_right, arith, T, leb, leb→le, le→leb, ℤ, pos, ◌+ℤ◌, ◌-ℤ◌, ◌*ℤ◌, neg_ℤ, nat_abs}
 use Rattle.std.specs.Int.Signed.{le_z}
 use Rattle.std.proofs.Math.Nat.{le-suc}
 use Rattle.std.proofs.lemmas.Int.{ints, unsigned_abs-mul}
-use borrow.Author.Differences.{le_in}
 use std.Quotient.{cls}
 use Rattle.exact.proofs.Ring.{con, ◌⊕◌, ◌⊖◌, ◌⊗◌, ⊝, norm}
 use Rattle.exact.proofs.Integer.{zring, x₀, x₁, x₂, x₃, x₄}
@@ -75,10 +74,10 @@ run_abs p q (suc n) = ap (λ (z : ℤ). z *ℤ pos (nat_abs p)) (run_abs p q n) 
 
 -- ---- the test, as two orders
 above : (x n : ℤ) (c e : ℕ) → nat_abs (x -ℤ n) + c ≤ e → T (le_z (x +ℤ pos c) (pos e +ℤ n))
-above x n c e h = le_in (x +ℤ pos c) (pos e +ℤ n) (omega (arith, ints))
+above x n c e h = omega (arith, ints)
 
 below : (x n : ℤ) (c e : ℕ) → nat_abs (x -ℤ n) + c ≤ e → T (le_z (neg_ℤ x +ℤ pos c) (pos e +ℤ neg_ℤ n))
-below x n c e h = le_in (neg_ℤ x +ℤ pos c) (pos e +ℤ neg_ℤ n) (omega (arith, ints))
+below x n c e h = omega (arith, ints)
 
 -- n is at least twice |p / q|
 twice : (p : ℤ) (q n : ℕ) (Q : 0 < q) → 2 * nat_abs p ≤ n * q → fr (pos (nat_abs p)) q Q +q fr (pos (nat_abs p)) q Q ≤q ofℕ n

@@ -1,5 +1,5 @@
 -- Tables: one computed test over a whole table gives each row its rule, for every sum, and every bracket. A row is a whole number x that stands for num x / l, with the unit unit x / l.
-use Rattle.std.proofs.Common.{◌≡◌, refl, sym, ap, ◌∙◌, subst, Bool, true, false, List, [], ◌∷◌, ℕ, zero, suc, ◌+◌, ◌*◌, ◌^◌, ◌≤◌, ◌<◌, zero-lt-suc, mul-pos, mul-le-mul_right, arith, T, leb, lit≤, leb→le, le→leb, pow_pos, ℤ, pos, nat_abs, length, get_or, mul-le-mul, add-zero, zero-add, add-suc, suc-add, le_of_suc-le-suc, not-suc-le-zero, ◌&&◌}
+use Rattle.std.proofs.Common.{◌≡◌, refl, sym, ap, ◌∙◌, subst, Bool, true, List, [], ◌∷◌, ℕ, zero, suc, ◌+◌, ◌*◌, ◌^◌, ◌≤◌, ◌<◌, zero-lt-suc, mul-pos, mul-le-mul_right, arith, T, leb, lit≤, leb→le, le→leb, pow_pos, ℤ, pos, nat_abs, length, get_or, mul-le-mul, add-zero, zero-add, add-suc, suc-add, le_of_suc-le-suc, not-suc-le-zero, ◌&&◌}
 use Rattle.std.specs.Float.Ieee.Fits.{and_l, and_r}
 use Rattle.exact.specs.Fraction.{fraction}
 use Rattle.exact.proofs.Ring.{con, ◌⊖◌, ◌⊗◌, norm}

@@ -1,9 +1,8 @@
 -- Distances of fractions, as whole numbers and as rationals.
 use Rattle.std.proofs.Common.{◌≡◌, ℕ, zero, suc, ◌+◌, ◌*◌, ◌<◌, ◌≤◌, Bool, true, false, T, [], ◌∷◌, ℤ, pos, negsuc, ◌+ℤ◌, ◌*ℤ◌, neg_ℤ, nat_abs, sym, refl, ap, ◌∙◌, subst, ap₂, le_trans, le_of_eq, mul-le-mul_right, mul-pos, le_of_mul-le-mul_right, arith, le→leb, leb→le}
-use Rattle.std.specs.Int.Signed.{non_neg, le_z_yes}
+use Rattle.std.specs.Int.Signed.{non_neg, le_z, le_z_yes}
 use Rattle.std.specs.Float.Ieee.Bits.{is_true}
 use Rattle.std.proofs.lemmas.Int.{ints}
-use borrow.Author.Differences.{same_in, le_T}
 use std.Quotient.{cls}
 use Rattle.exact.specs.Fraction.{Fraction, Same, absolute, difference, apart, ◌≼◌}
 use Rattle.exact.proofs.Ring.{◌⊕◌, ◌⊖◌, ◌⊗◌, ⊝, norm}
@@ -28,9 +27,9 @@ pub same_number : (a b : Fraction) → ◌≡◌ {A = ℚ} (cls a) (cls b) → S
 same_number a b e =
     let x = a.num *ℤ pos b.den in
     let y = b.num *ℤ pos a.den in
-    let h = le_T x y (leq_out a b (subst (λ (q : ℚ). cls a ≤q q) e (q_refl (cls a)))) in
-    let k = le_T y x (leq_out b a (subst (λ (q : ℚ). q ≤q cls a) e (q_refl (cls a)))) in
-    same_in x y (omega (arith, h, k))
+    let h : T (le_z x y) = leq_out a b (subst (λ (q : ℚ). cls a ≤q q) e (q_refl (cls a))) in
+    let k : T (le_z y x) = leq_out b a (subst (λ (q : ℚ). q ≤q cls a) e (q_refl (cls a))) in
+    omega (arith, ints)
 
 -- ---- the absolute value, and distances
 abs_of : (z : ℤ) (d : ℕ) (D : 0 < d) → fr (pos (nat_abs z)) d D ≡ pick (non_neg z) (fr z d D)

@@ -3,7 +3,6 @@ use Rattle.std.proofs.Common.{◌≡◌, ℕ, suc, ◌+◌, ◌-◌, ◌*◌, �
 use Rattle.std.specs.Int.Signed.{le_z}
 use Rattle.std.specs.Float.Ieee.{unlike}
 use Rattle.std.proofs.lemmas.Int.{ints}
-use borrow.Author.Differences.{neg_is, le_T}
 use std.Quotient.{cls}
 use Rattle.exact.proofs.Ring.{con, ◌⊕◌, ◌⊖◌, ◌⊗◌, ⊝, norm}
 use Rattle.exact.proofs.Integer.{zring, x₀, x₁, x₂}
@@ -123,10 +122,10 @@ sign_size (negsuc n) = record { s = true; n = suc n; how = refl }
 
 -- ---- and back: one number has one size
 abs_eq : (s t : Bool) (a b : ℕ) → T (le_z (signed s a) (signed t b)) → T (le_z (signed t b) (signed s a)) → a ≡ b
-abs_eq false false a b h k = omega (arith, le_T (pos a) (pos b) h, le_T (pos b) (pos a) k)
-abs_eq false true a b h k = omega (arith, le_T (pos a) (signed true b) h, le_T (signed true b) (pos a) k, neg_is (pos b))
-abs_eq true false a b h k = omega (arith, le_T (signed true a) (pos b) h, le_T (pos b) (signed true a) k, neg_is (pos a))
-abs_eq true true a b h k = omega (arith, le_T (signed true a) (signed true b) h, le_T (signed true b) (signed true a) k, neg_is (pos a), neg_is (pos b))
+abs_eq false false a b h k = omega (arith, ints)
+abs_eq false true a b h k = omega (arith, ints)
+abs_eq true false a b h k = omega (arith, ints)
+abs_eq true true a b h k = omega (arith, ints)
 
 pub size_out : (s t : Bool) (a c b d : ℕ) (C : 0 < c) (E : 0 < d) → frac s a c C ≡ frac t b d E → a * d ≡ b * c
 size_out s t a c b d C E e =
