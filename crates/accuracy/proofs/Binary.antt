@@ -1,12 +1,13 @@
 -- exp2 whole: every figure is right, exact at whole numbers, in agreement with any other lawful one, and as IEEE 754-2019 has it at the special values.
-use Rattle.std.proofs.Common.{◌≡◌, ℕ, ◌+◌, ◌*◌, ◌/◌, ◌%◌, ◌<◌, ◌≤◌, min, Bool, true, false, cond, not, ◌&&◌, T, ltb, leb, ◌⊎◌, ℤ, pos, negsuc, ◌+ℤ◌, ◌*ℤ◌, neg_ℤ, nat_abs, ◌≤ℤ◌, sym, refl, ap, ◌∙◌, subst, inl, inr, zero-lt-suc, mul-one, arith, lit≤, eqb→eq}
-use native.Mathlib.Nat.{div-add-mod, mul-mod_left}
-use lib.Signed.{le_z, le_z_yes}
-use lib.Ieee.{Float, nan, inf, fin, binary32, up, down, fits, is_nan, to_signed, of_bits, to_bits}
-use lib.Ieee.Bits.{is_true, is_false, of_bits-fits}
-use lib.Ieee.Fits.{down_pos, and_l, and_r, and_i, eq→eqb}
-use lib.Ieee.Scale.{finite}
-use borrow.Author.Differences.{ints, le_in}
+use Rattle.std.proofs.Common.{◌≡◌, ℕ, ◌*◌, ◌/◌, ◌%◌, ◌<◌, ◌≤◌, min, Bool, true, false, cond, not, ◌&&◌, T, ltb, leb, ℤ, pos, negsuc, ◌+ℤ◌, ◌*ℤ◌, neg_ℤ, nat_abs, ◌≤ℤ◌, sym, refl, ap, ◌∙◌, subst, inl, inr, zero-lt-suc, mul-one, arith, lit≤, eqb→eq, ltb-true, ltb-false, leb-true, leb-false}
+use Rattle.std.specs.Int.Signed.{le_z, le_z_yes}
+use Rattle.std.specs.Float.{Float, nan, inf, fin, binary32}
+use Rattle.std.specs.Float.Ieee.{up, down, fits, is_nan, to_signed, of_bits, to_bits}
+use Rattle.std.specs.Float.Ieee.Bits.{is_true, is_false, of_bits-fits}
+use Rattle.std.specs.Float.Ieee.Fits.{down_pos, and_l, and_r, and_i, eq→eqb}
+use Rattle.std.specs.Float.Ieee.Scale.{finite}
+use Rattle.std.proofs.Math.Nat.{div-add-mod, mul-mod_left}
+use Rattle.std.proofs.lemmas.Int.{ints}
 use std.Quotient.{cls}
 use Rattle.exact.specs.Fraction.{Same, integer}
 use Rattle.exact.specs.Logarithm.{binary}
@@ -14,16 +15,16 @@ use Rattle.exact.specs.Exact.{exp2}
 use Rattle.exact.proofs.Rational.{ℚ, is, ◌+q◌, ◌*q◌, -q◌, ◌-q◌, ofℤ}
 use Rattle.exact.proofs.Order.{nn, ◌≤q◌, q_trans}
 use Rattle.exact.proofs.Bound.{ofℕ, Bound, bound_more}
-use Rattle.exact.proofs.Compare.{integer_cls, leq_in}
+use Rattle.exact.proofs.Compare.{integer_cls, leq_in, dy}
 use Rattle.exact.proofs.Integer.{mul_oneℤ}
 use Rattle.rounding.specs.Values.{signed, value, is_zero}
-use Rattle.rounding.proofs.Fractions.{dy, frac_same}
+use Rattle.rounding.proofs.Fractions.{frac_same}
 use Rattle.rounding.proofs.Value.{val, val_value}
 use Rattle.rounding.proofs.Multiple.{Mult, mult_whole}
 use Rattle.rounding.proofs.Cast.{cast_value}
 use Rattle.rounding.proofs.Patterns.{sized}
 use Rattle.arithmetic.specs.Arithmetic.{Arithmetic, Lawful}
-use Rattle.arithmetic.specs.Signs.{order, signed_mul, signed_size, size_mul}
+use Rattle.arithmetic.specs.Signs.{signed_mul, signed_size, size_mul}
 use Rattle.curves.specs.Steps.{pattern, magnitude, single}
 use Rattle.curves.specs.Exp2.{is_whole, in_powers, bits_of_power, exp2_small_value, exp2_table_value, exp2_value, Exp2Reaches}
 use Rattle.curves.proofs.Decimal.{same_integer}
@@ -38,8 +39,7 @@ use Rattle.accuracy.proofs.PowerLimits as Limits
 use Rattle.accuracy.proofs.PowerLimits.{last}
 use Rattle.accuracy.proofs.PowerBands.{infinite_right, one_right, zero_from, zero_right, least_right, whole_right}
 use Rattle.accuracy.proofs.BinaryPolynomial.{small_wide}
-use Rattle.accuracy.proofs.BinaryTable.{table_wide}
-use Rattle.accuracy.proofs.Tests.{less, not_less, up_to_is, not_up_to, both_hold, left_fails, right_fails, taken, left}
+use Rattle.accuracy.proofs.BinaryTable.{by_row}
 
 -- ---- the band of a number, and its figure under every arithmetic
 pub data Band (x : Float) : Type 0 where
@@ -52,61 +52,29 @@ pub data Band (x : Float) : Type 0 where
   table : Exp2Reaches x → ((a : Arithmetic) → exp2_value a x ≡ exp2_table_value a x) → Band x
 
 pub band : (x : Float) → T (not (is_nan x)) → Band x
-band x number = by_whole (in_powers x) refl
+band x number =
+    go (in_powers x) (ltb (magnitude x) 0x3280_0000) (ltb 0xc315_0000 (pattern x)) (ltb (pattern x) 0xc316_0000) (leb 0xc316_0000 (pattern x)) (ltb (pattern x) 0x8000_0000) (leb 0x4300_0000 (pattern x)) (leb (magnitude x) 0x3d00_0000)
+    refl refl refl refl refl refl refl refl
   where
-    e₀ : is_nan x ≡ false
-    e₀ = is_false (is_nan x) number
+    n : is_nan x ≡ false
+    n = is_false (is_nan x) number
 
-    -- past the bands of +0 and 2 ^ -149, and past that of infinity
-    by_size : in_powers x ≡ false → 0x3280_0000 ≤ magnitude x → pattern x ≤ 0xc315_0000 → (pattern x < 0x4300_0000) ⊎ (0x8000_0000 ≤ pattern x) → (ltb (pattern x) 0x8000_0000 && leb 0x4300_0000 (pattern x)) ≡ false → Band x
-    by_size e₁ h₂ h₃ h₄ e₅ =
-        let e₂ = not_less (magnitude x) 0x3280_0000 h₂ in
-        let e₃ = left_fails (ltb 0xc315_0000 (pattern x)) (ltb (pattern x) 0xc316_0000) (not_less 0xc315_0000 (pattern x) h₃) in
-        let e₄ = not_up_to 0xc316_0000 (pattern x) (omega arith) in
-        elim (order 0x3d00_0000 (magnitude x)) [
-          | inl g ↦ table (record { number = number; broken = e₁; past_small = g; limits = elim h₄ [ inl l ↦ inl l | inr l ↦ inr (l, h₃) ] })
-              (λ a. left (is_nan x) _ _ e₀ ∙ left (in_powers x) _ _ e₁ ∙ left (ltb (magnitude x) 0x3280_0000) _ _ e₂ ∙ left (ltb 0xc315_0000 (pattern x) && ltb (pattern x) 0xc316_0000) _ _ e₃ ∙ left (leb 0xc316_0000 (pattern x)) _ _ e₄ ∙ left (ltb (pattern x) 0x8000_0000 && leb 0x4300_0000 (pattern x)) _ _ e₅ ∙ left (leb (magnitude x) 0x3d00_0000) _ _ (not_up_to (magnitude x) 0x3d00_0000 g))
-          | inr g ↦ small g (λ a. left (is_nan x) _ _ e₀ ∙ left (in_powers x) _ _ e₁ ∙ left (ltb (magnitude x) 0x3280_0000) _ _ e₂ ∙ left (ltb 0xc315_0000 (pattern x) && ltb (pattern x) 0xc316_0000) _ _ e₃ ∙ left (leb 0xc316_0000 (pattern x)) _ _ e₄ ∙ left (ltb (pattern x) 0x8000_0000 && leb 0x4300_0000 (pattern x)) _ _ e₅ ∙ taken (leb (magnitude x) 0x3d00_0000) _ _ (up_to_is (magnitude x) 0x3d00_0000 g))
-        ]
-
-    by_sign : in_powers x ≡ false → 0x3280_0000 ≤ magnitude x → pattern x ≤ 0xc315_0000 → Band x
-    by_sign e₁ h₂ h₃ =
-        let e₂ = not_less (magnitude x) 0x3280_0000 h₂ in
-        let e₃ = left_fails (ltb 0xc315_0000 (pattern x)) (ltb (pattern x) 0xc316_0000) (not_less 0xc315_0000 (pattern x) h₃) in
-        let e₄ = not_up_to 0xc316_0000 (pattern x) (omega arith) in
-        elim (order (pattern x) 0x8000_0000) [
-          | inl s ↦ elim (order (pattern x) 0x4300_0000) [
-            | inl g ↦ by_size e₁ h₂ h₃ (inl g) (right_fails (ltb (pattern x) 0x8000_0000) (leb 0x4300_0000 (pattern x)) (not_up_to 0x4300_0000 (pattern x) g))
-            | inr g ↦ infinite s g (λ a. left (is_nan x) _ _ e₀ ∙ left (in_powers x) _ _ e₁ ∙ left (ltb (magnitude x) 0x3280_0000) _ _ e₂ ∙ left (ltb 0xc315_0000 (pattern x) && ltb (pattern x) 0xc316_0000) _ _ e₃ ∙ left (leb 0xc316_0000 (pattern x)) _ _ e₄
-                ∙ taken (ltb (pattern x) 0x8000_0000 && leb 0x4300_0000 (pattern x)) _ _ (both_hold (ltb (pattern x) 0x8000_0000) (leb 0x4300_0000 (pattern x)) (less (pattern x) 0x8000_0000 s) (up_to_is 0x4300_0000 (pattern x) g)))
-          ]
-          | inr s ↦ by_size e₁ h₂ h₃ (inr s) (left_fails (ltb (pattern x) 0x8000_0000) (leb 0x4300_0000 (pattern x)) (not_less (pattern x) 0x8000_0000 s))
-        ]
-
-    by_end : in_powers x ≡ false → 0x3280_0000 ≤ magnitude x → Band x
-    by_end e₁ h₂ =
-        let e₂ = not_less (magnitude x) 0x3280_0000 h₂ in
-        elim (order (pattern x) 0xc316_0000) [
-          | inl g ↦ elim (order 0xc315_0000 (pattern x)) [
-            | inl l ↦ least l g (λ a. left (is_nan x) _ _ e₀ ∙ left (in_powers x) _ _ e₁ ∙ left (ltb (magnitude x) 0x3280_0000) _ _ e₂ ∙ taken (ltb 0xc315_0000 (pattern x) && ltb (pattern x) 0xc316_0000) _ _ (both_hold (ltb 0xc315_0000 (pattern x)) (ltb (pattern x) 0xc316_0000) (less 0xc315_0000 (pattern x) l) (less (pattern x) 0xc316_0000 g)))
-            | inr l ↦ by_sign e₁ h₂ l
-          ]
-          | inr g ↦ zero_band g (λ a. left (is_nan x) _ _ e₀ ∙ left (in_powers x) _ _ e₁ ∙ left (ltb (magnitude x) 0x3280_0000) _ _ e₂ ∙ left (ltb 0xc315_0000 (pattern x) && ltb (pattern x) 0xc316_0000) _ _ (right_fails (ltb 0xc315_0000 (pattern x)) (ltb (pattern x) 0xc316_0000) (not_less (pattern x) 0xc316_0000 g)) ∙ taken (leb 0xc316_0000 (pattern x)) _ _ (up_to_is 0xc316_0000 (pattern x) g))
-        ]
-
-    by_whole : (b : Bool) → in_powers x ≡ b → Band x
-    by_whole true e = whole (subst T (sym e) tt) (λ a. left (is_nan x) _ _ e₀ ∙ taken (in_powers x) _ _ e)
-    by_whole false e = elim (order (magnitude x) 0x3280_0000) [
-      | inl g ↦ one g (λ a. left (is_nan x) _ _ e₀ ∙ left (in_powers x) _ _ e ∙ taken (ltb (magnitude x) 0x3280_0000) _ _ (less (magnitude x) 0x3280_0000 g))
-      | inr g ↦ by_end e g
-    ]
+    go : (b p q r z s u v : Bool) → in_powers x ≡ b → ltb (magnitude x) 0x3280_0000 ≡ p → ltb 0xc315_0000 (pattern x) ≡ q → ltb (pattern x) 0xc316_0000 ≡ r → leb 0xc316_0000 (pattern x) ≡ z → ltb (pattern x) 0x8000_0000 ≡ s → leb 0x4300_0000 (pattern x) ≡ u
+        → leb (magnitude x) 0x3d00_0000 ≡ v → Band x
+    go true p q r z s u v c d e f g h i k = whole (subst T (sym c) tt) (λ a. simp (n, c))
+    go false true q r z s u v c d e f g h i k = one (ltb-true _ _ d) (λ a. simp (n, c, d))
+    go false false true true z s u v c d e f g h i k = least (ltb-true _ _ e) (ltb-true _ _ f) (λ a. simp (n, c, d, e, f))
+    go false false q r true s u v c d e f g h i k = zero_band (leb-true _ _ g) (λ a. simp (n, c, d, e, f, g))
+    go false false true false false s u v c d e f g h i k = absurd (omega (arith, ltb-false _ _ f, leb-false _ _ g))
+    go false false false r false true true v c d e f g h i k = infinite (ltb-true _ _ h) (leb-true _ _ i) (λ a. simp (n, c, d, e, f, g, h, i))
+    go false false false r false s u true c d e f g h i k = small (leb-true _ _ k) (λ a. simp (n, c, d, e, f, g, h, i, k))
+    go false false false r false true false false c d e f g h i k = table record { number = number; broken = c; past_small = leb-false _ _ k; limits = inl (leb-false _ _ i) } (λ a. simp (n, c, d, e, f, g, h, i, k))
+    go false false false r false false u false c d e f g h i k = table record { number = number; broken = c; past_small = leb-false _ _ k; limits = inr (ltb-false _ _ h, ltb-false _ _ e) } (λ a. simp (n, c, d, e, f, g, h, i, k))
 
 -- ---- whole numbers
 -- what the test of a whole number says
 whole_out : (x : Float) → T (in_powers x) → (val x ≡ ofℤ (to_signed 31 x)) × (negsuc 148 ≤ℤ to_signed 31 x) × (to_signed 31 x ≤ℤ pos 127)
 unfolding is_whole to_signed val ofℤ
-whole_out nan t = absurd t
-whole_out (inf s) t = absurd t
 whole_out (fin s m e) t =
     let K = m * up e / down e in
     let z : ℤ = cond s (neg_ℤ (pos (min K 2147483648))) (pos (min K 2147483647)) in
@@ -115,14 +83,12 @@ whole_out (fin s m e) t =
     let l : negsuc 148 ≤ℤ z = le_z_yes (and_l (le_z (negsuc 148) z) (le_z z (pos 127)) lh) in
     let h : z ≤ℤ pos 127 = le_z_yes (and_r (le_z (negsuc 148) z) (le_z z (pos 127)) lh) in
     let r = in_range s K l h in
-    (frac_same s (m * up e) (down e) K 1 (down_pos e) (zero-lt-suc 0) (exact (m * up e) (down e) K (div-add-mod (m * up e) (down e)) w) ∙ ap (λ (u : ℤ). cls (integer u)) (same_sign s K ∙ sym r.1), l, h)
+    (frac_same s (m * up e) (down e) K 1 (down_pos e) (zero-lt-suc 0) (omega (arith, div-add-mod (m * up e) (down e))) ∙ ap (λ (u : ℤ). cls (integer u)) (same_sign s K ∙ sym r.1), l, h)
   where
-    exact : (a d k : ℕ) → d * k + a % d ≡ a → a % d ≡ 0 → a * 1 ≡ k * d
-    exact a d k e z = omega arith
-
     same_sign : (s : Bool) (n : ℕ) → signed s n ≡ cond s (neg_ℤ (pos n)) (pos n)
     same_sign false n = refl
     same_sign true n = refl
+whole_out _ t = absurd t
 
 small_power : (k : ℤ) → negsuc 148 ≤ℤ k → k ≤ℤ pos 127 → nat_abs k ≤ 200
 small_power (pos n) l h = omega (arith, ints, h)
@@ -148,12 +114,11 @@ whole_in x k l h t e =
     (and_i (is_whole x) (le_z (negsuc 148) (to_signed 31 x) && le_z (to_signed 31 x) (pos 127)) (no_rest x k t e) (and_i (le_z (negsuc 148) (to_signed 31 x)) (le_z (to_signed 31 x) (pos 127)) (subst (λ (z : ℤ). T (le_z (negsuc 148) z)) (sym c) l.le) (subst (λ (z : ℤ). T (le_z z (pos 127))) (sym c) h.le)), c)
   where
     size : (k : ℤ) → nat_abs k ≤ 200 → Bound (ofℤ k) (ofℕ 200)
-    size k s = unfold ofℤ ofℕ -q◌ in record { hi = leq_in (integer k) (integer (pos 200)) (le_in (k *ℤ pos 1) (pos 200) (omega (arith, ints))); lo = leq_in (integer (negsuc 199)) (integer k) (le_in (negsuc 199) (k *ℤ pos 1) (omega (arith, ints))) }
+    size k s = unfold ofℤ ofℕ -q◌ in record { hi = leq_in (integer k) (integer (pos 200)) (omega (arith, ints)); lo = leq_in (integer (negsuc 199)) (integer k) (omega (arith, ints)) }
 
     no_rest : (x : Float) (k : ℤ) → T (finite x) → Same (value x) (integer k) → T (is_whole x)
-    no_rest nan k t e = absurd t
-    no_rest (inf s) k t e = absurd t
     no_rest (fin s m d) k t e = unfold is_whole in eq→eqb (ap (λ (n : ℕ). n % down d) (sym (mul-one (m * up d)) ∙ sym (signed_size s (m * up d * 1)) ∙ ap nat_abs (sym (signed_mul s (m * up d) 1) ∙ e) ∙ size_mul k (down d)) ∙ mul-mod_left (nat_abs k) (down d))
+    no_rest _ _ t _ = absurd t
 
 -- ---- right
 nums : (sized 0x3280_0000 ≤q dy 1 26) × (dy 1 5 ≤q last binary) × (-q◌ (ofℕ 150) ≤q -q◌ (sized 0x4316_0000)) × (-q◌ (sized 0x4315_0000) ≤q -q◌ (ofℕ 149)) × (-q◌ (sized 0x4316_0000) ≤q -q◌ (zero_from binary))
@@ -178,7 +143,7 @@ module _ (x : Float) (w : T (fits binary32 x)) (t : T (finite x)) where
   right_at a v (zero_band h e) = zero_right binary x (exp2_value a x) (e a ∙ singles.2) (q_trans (down_from x w t 0x4316_0000 (omega arith)) nums.4)
   right_at a v (infinite s h e) = infinite_right binary x (exp2_value a x) (e a ∙ singles.3) (exp2_first x w t s h)
   right_at a v (small h e) = subst (λ (y : Float). Right exp2 x y) (sym (e a)) (right exp2 x _ 1 (small_placed h) (small_wide a.fma (fma_law a v) x t w (near_zero x w t h)))
-  right_at a v (table r e) = subst (λ (y : Float). Right exp2 x y) (sym (e a)) (right exp2 x _ 162 (table_placed r) (table_wide a v x w r))
+  right_at a v (table r e) = subst (λ (y : Float). Right exp2 x y) (sym (e a)) (right exp2 x _ 162 (table_placed r) (by_row a v x w r).wide)
 
   agree_at : (a b : Arithmetic) → Lawful a → Lawful b → Band x → Agree exp2 x (exp2_value a x) (exp2_value b x)
   agree_at a b v u (whole q e) = equal (e a ∙ sym (e b))
@@ -187,7 +152,7 @@ module _ (x : Float) (w : T (fits binary32 x)) (t : T (finite x)) where
   agree_at a b v u (zero_band h e) = equal (e a ∙ sym (e b))
   agree_at a b v u (infinite s h e) = equal (e a ∙ sym (e b))
   agree_at a b v u (small h e) = subst (λ (y : Float). Agree exp2 x y (exp2_value b x)) (sym (e a)) (subst (λ (y : Float). Agree exp2 x (exp2_small_value a x) y) (sym (e b)) (agree exp2 x _ _ 1 (small_placed h) (small_wide a.fma (fma_law a v) x t w (near_zero x w t h)) (small_wide b.fma (fma_law b u) x t w (near_zero x w t h))))
-  agree_at a b v u (table r e) = subst (λ (y : Float). Agree exp2 x y (exp2_value b x)) (sym (e a)) (subst (λ (y : Float). Agree exp2 x (exp2_table_value a x) y) (sym (e b)) (agree exp2 x _ _ 162 (table_placed r) (table_wide a v x w r) (table_wide b u x w r)))
+  agree_at a b v u (table r e) = subst (λ (y : Float). Agree exp2 x y (exp2_value b x)) (sym (e a)) (subst (λ (y : Float). Agree exp2 x (exp2_table_value a x) y) (sym (e b)) (agree exp2 x _ _ 162 (table_placed r) (by_row a v x w r).wide (by_row b u x w r).wide))
 
 exp2_right : CurveRight exp2
 exp2_right a v x w t = right_at x w t a v (band x (numberless x t))
@@ -199,14 +164,12 @@ exp2_agrees_lem a b v u x w t = agree_at x w t a b v u (band x (numberless x t))
 exact_at : (a : Arithmetic) (x : Float) (k : ℤ) → negsuc 148 ≤ℤ k → k ≤ℤ pos 127 → T (finite x) → Same (value x) (integer k) → exp2_value a x ≡ fin false 1 k
 exact_at a x k l h t e =
     let o = whole_in x k l h t e in
-    left (is_nan x) _ _ (is_false (is_nan x) (numberless x t)) ∙ taken (in_powers x) _ _ (is_true (in_powers x) o.0) ∙ ap (fin false 1) o.1
+    simp (is_false (is_nan x) (numberless x t), is_true (in_powers x) o.0) (ap (fin false 1) o.1)
 
 exp2_exact : CurveExact exp2
 exp2_exact a v x w k l h t e = exact_at a x k l h t e
 
 zero_value : (x : Float) → T (is_zero x) → T (finite x) × Same (value x) (integer (pos 0))
-zero_value nan t = absurd t
-zero_value (inf s) t = absurd t
 zero_value (fin s m e) t = (tt, ap (λ (n : ℕ). signed s (n * up e) *ℤ pos 1) (eqb→eq m 0 t) ∙ nil s (up e) (down e))
   where
     none : (u : ℕ) → 0 * u ≡ 0
@@ -215,6 +178,7 @@ zero_value (fin s m e) t = (tt, ap (λ (n : ℕ). signed s (n * up e) *ℤ pos 1
     nil : (s : Bool) (u d : ℕ) → signed s (0 * u) *ℤ pos 1 ≡ pos 0 *ℤ pos d
     nil false u d = ap (λ (n : ℕ). pos n *ℤ pos 1) (none u) ∙ sym (ap pos (none d))
     nil true u d = ap (λ (n : ℕ). neg_ℤ (pos n) *ℤ pos 1) (none u) ∙ sym (ap pos (none d))
+zero_value _ t = absurd t
 
 exp2_special : CurveSpecial exp2
 exp2_special a x = record {

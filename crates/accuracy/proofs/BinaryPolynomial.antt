@@ -1,20 +1,20 @@
 -- exp2 near zero: 1 + x p(x), p of six terms in pairs, is within 2 ^ -47 of 2 ^ x, relative to it, before the narrowing.
 use Rattle.std.proofs.Common.{◌≡◌, ℕ, ◌^◌, ◌≤◌, T, [], ◌∷◌, pos, sym, refl, subst, inr, le_trans, lit≤}
-use lib.Ieee.{Float, binary32, binary64, mul, of_bits, fits}
-use lib.Ieee.Scale.{finite}
+use Rattle.std.specs.Float.{Float, binary32, binary64}
+use Rattle.std.specs.Float.Ieee.{mul, of_bits, fits}
+use Rattle.std.specs.Float.Ieee.Scale.{finite}
 use Rattle.exact.specs.Logarithm.{binary}
 use Rattle.exact.specs.Exact.{exp2}
 use Rattle.exact.proofs.Ring.{con, ◌⊕◌, ◌⊖◌, ◌⊗◌, ⊝, norm}
 use Rattle.exact.proofs.Integer.{x₀, x₁, x₂, x₃, x₄, x₅, x₆, x₇}
 use Rattle.exact.proofs.Rational.{ℚ, ◌+q◌, ◌*q◌, -q◌, ◌-q◌, ofℤ, qring}
 use Rattle.exact.proofs.Order.{nn, ◌≤q◌, q_trans}
-use Rattle.exact.proofs.Bound.{ofℕ, inv, Bound, bound_more, bound_add, bound_mul, bound_neg}
-use Rattle.exact.proofs.Compare.{nn_dy}
+use Rattle.exact.proofs.Bound.{ofℕ, inv, Bound, bound_more, bound_add, bound_mul, bound_neg, bound_is}
+use Rattle.exact.proofs.Compare.{nn_dy, dy}
 use Rattle.exact.proofs.Series.{term, S, R, later, tail}
 use Rattle.exact.proofs.Logarithm.{root}
 use Rattle.rounding.specs.Values.{value}
 use Rattle.rounding.specs.Ranges.{Ranged}
-use Rattle.rounding.proofs.Fractions.{dy}
 use Rattle.rounding.proofs.Value.{val}
 use Rattle.rounding.proofs.Horner.{ball_size, Step}
 use Rattle.rounding.proofs.Range.{FmaLaw}
@@ -51,7 +51,7 @@ ranges = ((tt, inr (lit≤ tt, lit≤ tt)), (tt, inr (lit≤ tt, lit≤ tt)), (t
 
 sizes : Bound (val h₀) (dy 3 2) × Bound (val h₁) (dy 1 2) × Bound (val h₂) (dy 1 4) × Bound (val h₃) (dy 1 6) × Bound (val h₄) (dy 1 9) × Bound (val h₅) (dy 1 12)
 unfolding nn ◌-q◌ ◌+q◌ -q◌ val of_bits
-sizes = (record { hi = record { le = tt }; lo = record { le = tt } }, record { hi = record { le = tt }; lo = record { le = tt } }, record { hi = record { le = tt }; lo = record { le = tt } }, record { hi = record { le = tt }; lo = record { le = tt } }, record { hi = record { le = tt }; lo = record { le = tt } }, record { hi = record { le = tt }; lo = record { le = tt } })
+sizes = (bound_is tt tt, bound_is tt tt, bound_is tt tt, bound_is tt tt, bound_is tt tt, bound_is tt tt)
 
 first_nums : Numbers (dy 1 5) (dy 1 12) (dy 1 60) (dy 1 9) (dy 1 8) (dy 1 55) h₄ × Numbers (dy 1 5) (dy 1 6) (dy 1 60) (dy 1 4) (dy 1 3) (dy 1 55) h₂ × Numbers (dy 1 5) (dy 1 2) (dy 1 60) (dy 3 2) (dy 25 5) (dy 1 52) h₀
 unfolding nn ◌-q◌ ◌+q◌ -q◌ ◌*q◌ ofℕ ofℤ val of_bits
@@ -164,7 +164,7 @@ six_terms t l =
 
 diff : Bound (val unit -q ofℕ 1) (dy 1 60) × Bound (val h₀ -q d₁) (dy 1 51) × Bound (val h₁ -q d₂) (dy 1 50) × Bound (val h₂ -q d₃) (dy 1 36) × Bound (val h₃ -q d₄) (dy 1 39) × Bound (val h₄ -q d₅) (dy 1 25) × Bound (val h₅ -q d₆) (dy 1 34)
 unfolding nn ◌-q◌ ◌+q◌ -q◌ ◌*q◌ val of_bits inv ofℕ ofℤ
-diff = (record { hi = record { le = tt }; lo = record { le = tt } }, record { hi = record { le = tt }; lo = record { le = tt } }, record { hi = record { le = tt }; lo = record { le = tt } }, record { hi = record { le = tt }; lo = record { le = tt } }, record { hi = record { le = tt }; lo = record { le = tt } }, record { hi = record { le = tt }; lo = record { le = tt } }, record { hi = record { le = tt }; lo = record { le = tt } })
+diff = (bound_is tt tt, bound_is tt tt, bound_is tt tt, bound_is tt tt, bound_is tt tt, bound_is tt tt, bound_is tt tt)
 
 abbrev X : ℚ
 X = dy 1 5
@@ -172,7 +172,7 @@ X = dy 1 5
 series_nums : (X *q (X *q (X *q (X *q (X *q (X *q dy 1 34 +q dy 1 25) +q dy 1 39) +q dy 1 36) +q dy 1 50) +q dy 1 51) +q dy 1 60 ≤q dy 13 53) × (X *q dy 711 10 +q X *q dy 711 10 ≤q ofℕ 6) × (R (X *q dy 711 10) 6 ≤q dy 9 53) × Bound (root binary) (dy 711 10)
     × (dy 13 53 +q dy 9 53 +q dy 1 51 ≤q dy 1 48 *q dy 28 5) × (dy 1 48 +q (dy 1 84 +q dy 1 84) +q dy 1 48 *q (dy 1 84 +q dy 1 84) +q dy 1 90 ≤q dy 1 47) × (dy 1 47 ≤q close) × (dy 1 1 ≤q dy 28 5)
 unfolding nn ◌-q◌ ◌+q◌ -q◌ ◌*q◌ term inv ofℕ ofℤ
-series_nums = (record { le = tt }, record { le = tt }, record { le = tt }, record { hi = record { le = tt }; lo = record { le = tt } }, record { le = tt }, record { le = tt }, record { le = tt }, record { le = tt })
+series_nums = (record { le = tt }, record { le = tt }, record { le = tt }, bound_is tt tt, record { le = tt }, record { le = tt }, record { le = tt }, record { le = tt })
 
 module _ (t : ℚ) (bt : Bound t (dy 1 5)) where
   six_near : Bound (six t *q t +q val unit -q S (t *q root binary) 6) (dy 13 53)

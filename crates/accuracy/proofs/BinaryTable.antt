@@ -1,26 +1,25 @@
 -- exp2 by its table: the f64 before the narrowing is within 2 ^ -43 of 2 ^ x, relative to it, under every lawful arithmetic.
 use Rattle.std.proofs.Common.{◌≡◌, ℕ, ◌^◌, ◌≤◌, T, [], ◌∷◌, ℤ, pos, negsuc, ◌+ℤ◌, ◌*ℤ◌, neg_ℤ, nat_abs, ◌≤ℤ◌, sym, refl, ap, ◌∙◌, subst, inr, le_trans, zero-lt-suc, arith, lit≤}
-use lib.Signed.{shr_z}
-use lib.Ieee.{Float, binary32, binary64, mul, neg, of_bits, fits}
-use lib.Ieee.Fits.{mul-fits, fits_widens}
-use lib.Ieee.Scale.{finite}
-use borrow.Author.Differences.{ints}
+use Rattle.std.specs.Int.Signed.{shr_z}
+use Rattle.std.specs.Float.{Float, binary32, binary64}
+use Rattle.std.specs.Float.Ieee.{mul, neg, of_bits, fits}
+use Rattle.std.specs.Float.Ieee.Fits.{mul-fits, fits_widens}
+use Rattle.std.specs.Float.Ieee.Scale.{finite}
+use Rattle.std.proofs.lemmas.Int.{ints}
 use std.Quotient.{cls}
 use Rattle.exact.specs.Fraction.{dyadic}
 use Rattle.exact.specs.Logarithm.{binary}
-use Rattle.exact.specs.Exact.{exp2}
 use Rattle.exact.proofs.Ring.{◌⊕◌, ◌⊖◌, ◌⊗◌, ⊝, norm}
 use Rattle.exact.proofs.Integer.{x₀, x₁, x₂, x₃}
 use Rattle.exact.proofs.Rational.{ℚ, is, ◌+q◌, ◌*q◌, -q◌, ◌-q◌, ofℤ, qring}
-use Rattle.exact.proofs.Order.{nn, ◌≤q◌, q_trans}
-use Rattle.exact.proofs.Bound.{ofℕ, inv, nn_le, le_nn, Bound, bound_more, bound_add, bound_mul, bound_neg}
-use Rattle.exact.proofs.Compare.{diff_cls, integer_cls, abs_in, fr, nn_dy}
-use Rattle.exact.proofs.Series.{term, S, from}
+use Rattle.exact.proofs.Order.{nn, ◌≤q◌}
+use Rattle.exact.proofs.Bound.{ofℕ, inv, Bound, bound_more, bound_add, bound_mul, bound_neg, bound_is}
+use Rattle.exact.proofs.Compare.{diff_cls, integer_cls, abs_in, fr, dy}
+use Rattle.exact.proofs.Series.{term, from}
 use Rattle.exact.proofs.Logarithm.{root, low, low_near_root}
 use Rattle.rounding.specs.Values.{value}
 use Rattle.rounding.specs.Ranges.{Ranged, Permitted}
 use Rattle.rounding.specs.Units.{power}
-use Rattle.rounding.proofs.Fractions.{dy}
 use Rattle.rounding.proofs.Value.{val, val_value, mul_rounds}
 use Rattle.rounding.proofs.Error.{eps, tiny, round_err}
 use Rattle.rounding.proofs.Multiple.{Mult, mult_more, mult_add, mult_whole}
@@ -36,10 +35,9 @@ use Rattle.curves.proofs.Binary.{exp2_splits_lem}
 use Rattle.curves.proofs.Decimal.{Ready, ready_range}
 use Rattle.curves.proofs.Law.{finite_out, fma_law, in_range, near_whole}
 use Rattle.curves.proofs.PowerRow.{entry_from_one, scaled_row_lem}
-use Rattle.accuracy.proofs.Outcome.{Near, near_positive, nearer, close, Wide}
 use Rattle.accuracy.proofs.PowerInputs.{exp2_finite, exp2_size, exp2_away}
 use Rattle.accuracy.proofs.PowerProduct.{Coefficients}
-use Rattle.accuracy.proofs.PowerTable.{part_split, Approximates, mh_low, mh_high, table_near, table_finite, table_low}
+use Rattle.accuracy.proofs.PowerTable.{part_split, Approximates, FromRow, from_row}
 use Rattle.accuracy.proofs.PowerRows.{entry_rule}
 
 -- ---- the coefficients
@@ -66,11 +64,11 @@ coefficients = record {
   in₂ = (tt, inr (lit≤ tt, lit≤ tt));
   in₃ = (tt, inr (lit≤ tt, lit≤ tt));
   in₄ = (tt, inr (lit≤ tt, lit≤ tt));
-  size₀ = record { hi = record { le = tt }; lo = record { le = tt } };
-  size₁ = record { hi = record { le = tt }; lo = record { le = tt } };
-  size₂ = record { hi = record { le = tt }; lo = record { le = tt } };
-  size₃ = record { hi = record { le = tt }; lo = record { le = tt } };
-  size₄ = record { hi = record { le = tt }; lo = record { le = tt } };
+  size₀ = bound_is tt tt;
+  size₁ = bound_is tt tt;
+  size₂ = bound_is tt tt;
+  size₃ = bound_is tt tt;
+  size₄ = bound_is tt tt;
   low₁ = record { le = tt };
   low₃ = record { le = tt };
 }
@@ -84,12 +82,12 @@ approximates = record {
   D₂ = dy 1 40;
   D₃ = dy 1 24;
   D₄ = dy 1 30;
-  root_size = record { hi = record { le = tt }; lo = record { le = tt } };
-  near₀ = record { hi = record { le = tt }; lo = record { le = tt } };
-  near₁ = record { hi = record { le = tt }; lo = record { le = tt } };
-  near₂ = record { hi = record { le = tt }; lo = record { le = tt } };
-  near₃ = record { hi = record { le = tt }; lo = record { le = tt } };
-  near₄ = record { hi = record { le = tt }; lo = record { le = tt } };
+  root_size = bound_is tt tt;
+  near₀ = bound_is tt tt;
+  near₁ = bound_is tt tt;
+  near₂ = bound_is tt tt;
+  near₃ = bound_is tt tt;
+  near₄ = bound_is tt tt;
   all = record { le = tt };
   far = record { le = tt };
   rest = record { le = tt };
@@ -120,9 +118,9 @@ sixty_four = double 0x4050_0000_0000_0000
 abbrev step : Float
 step = neg (double 0x3f90_0000_0000_0000)
 
-nums : T (finite sixty_four) × Bound (val sixty_four) (ofℕ 64) × (ofℕ 150 *q ofℕ 64 ≤q ofℕ (2 ^ 20)) × (ofℕ 150 *q ofℕ 64 +q (ofℕ 150 *q ofℕ 64 *q eps binary64 +q tiny binary64) ≤q ofℕ (2 ^ 21)) × (dy 1 1 +q ofℕ (2 ^ 21) ≤q ofℕ (2 ^ 22)) × (ofℕ (2 ^ 22) ≤q ofℕ (2 ^ 400)) × (ofℕ 150 ≤q ofℕ (2 ^ 400)) × (ofℕ 150 *q dy 1 84 ≤q dy 1 58) × (dy 1 43 ≤q close) × (dy 1 7 ≤q dy 1 7)
+nums : T (finite sixty_four) × Bound (val sixty_four) (ofℕ 64) × (ofℕ 150 *q ofℕ 64 ≤q ofℕ (2 ^ 20)) × (ofℕ 150 *q ofℕ 64 +q (ofℕ 150 *q ofℕ 64 *q eps binary64 +q tiny binary64) ≤q ofℕ (2 ^ 21)) × (dy 1 1 +q ofℕ (2 ^ 21) ≤q ofℕ (2 ^ 22)) × (ofℕ (2 ^ 22) ≤q ofℕ (2 ^ 400)) × (ofℕ 150 ≤q ofℕ (2 ^ 400)) × (ofℕ 150 *q dy 1 84 ≤q dy 1 58) × (dy 1 7 ≤q dy 1 7)
 unfolding nn ◌-q◌ ◌+q◌ -q◌ ◌*q◌ val of_bits ofℕ ofℤ
-nums = (tt, record { hi = record { le = tt }; lo = record { le = tt } }, record { le = tt }, record { le = tt }, record { le = tt }, record { le = tt }, record { le = tt }, record { le = tt }, record { le = tt }, record { le = tt })
+nums = (tt, bound_is tt tt, record { le = tt }, record { le = tt }, record { le = tt }, record { le = tt }, record { le = tt }, record { le = tt }, record { le = tt })
 
 pub step_range : Ranged binary64 400 (neg (double 0x3f90_0000_0000_0000))
 unfolding neg of_bits fits
@@ -211,23 +209,6 @@ module _ (a : Arithmetic) (v : Lawful a) (x : Float) (w : T (fits binary32 x)) (
       (subst (λ (u : ℚ). Bound u (dy 1 58)) (qring (x₀ ⊗ (x₁ ⊖ x₂)) (x₀ ⊗ x₁ ⊖ x₀ ⊗ x₂) refl (val x ∷ low binary (from 80 j) ∷ L ∷ []))
       (bound_more (bound_mul (exp2_size x w t) (low_near_root binary j)) nums.7))
 
-  pub hi_low : dy 1 160 ≤q val (hi a x)
-  hi_low = mh_low binary (dy 1 7) nums.9 k₀ k₁ k₂ k₃ k₄ coefficients approximates a.fma (fma_law a v) (lo a x) (hi a x) lo_ready lo_size (shr_z (k a x) 64) (powers_small (k a x) powers) (row table_exp2f (row_of 64 (k a x))) _ (entry_rule (row_of 64 (k a x)) powers.row) hi_scaled.0 hi_scaled.1
-
-  pub hi_high : val (hi a x) ≤q ofℕ (2 ^ 160)
-  hi_high = mh_high binary (dy 1 7) nums.9 k₀ k₁ k₂ k₃ k₄ coefficients approximates a.fma (fma_law a v) (lo a x) (hi a x) lo_ready lo_size (shr_z (k a x) 64) (powers_small (k a x) powers) (row table_exp2f (row_of 64 (k a x))) _ (entry_rule (row_of 64 (k a x)) powers.row) hi_scaled.0 hi_scaled.1
-
-  pub wide_low : dy 1 162 ≤q val wide
-  wide_low = table_low binary (dy 1 7) nums.9 k₀ k₁ k₂ k₃ k₄ coefficients approximates a.fma (fma_law a v) (lo a x) (hi a x) lo_ready lo_size (shr_z (k a x) 64) (powers_small (k a x) powers) (row table_exp2f (row_of 64 (k a x))) _ (entry_rule (row_of 64 (k a x)) powers.row) hi_scaled.0 hi_scaled.1
-
   -- the f64 before the narrowing
-  pub table_is_near : Near exp2 (value x) (dy 1 43) wide
-  table_is_near =
-      near_positive exp2 (value x) (dy 1 43) wide
-      (table_finite binary (dy 1 7) nums.9 k₀ k₁ k₂ k₃ k₄ coefficients approximates a.fma (fma_law a v) (lo a x) (hi a x) lo_ready lo_size (shr_z (k a x) 64) (powers_small (k a x) powers) (row table_exp2f (row_of 64 (k a x))) _ (entry_rule (row_of 64 (k a x)) powers.row) hi_scaled.0 hi_scaled.1)
-      (le_nn (q_trans (nn_le (nn_dy 1 162)) wide_low)) (λ j. 1000) (λ j n l.
-      subst (λ (u : ℚ). Bound (val wide -q S (u *q low binary (from 80 j)) n) (dy 1 43 *q val wide)) (val_value x)
-      (table_near binary (dy 1 7) nums.9 k₀ k₁ k₂ k₃ k₄ coefficients approximates a.fma (fma_law a v) (lo a x) (hi a x) lo_ready lo_size (shr_z (k a x) 64) (powers_small (k a x) powers) (row table_exp2f (row_of 64 (k a x))) _ (entry_rule (row_of 64 (k a x)) powers.row) hi_scaled.0 hi_scaled.1 n l (val x *q low binary (from 80 j)) (split j)))
-
-  pub table_wide : Wide exp2 (value x) 162 wide
-  table_wide = record { above = wide_low; near = nearer close nums.8 table_is_near }
+  pub by_row : FromRow binary x (hi a x) wide
+  by_row = from_row binary (dy 1 7) nums.8 k₀ k₁ k₂ k₃ k₄ coefficients approximates a.fma (fma_law a v) (lo a x) (hi a x) lo_ready lo_size (shr_z (k a x) 64) (powers_small (k a x) powers) (row table_exp2f (row_of 64 (k a x))) _ (entry_rule (row_of 64 (k a x)) powers.row) hi_scaled.0 hi_scaled.1 x split

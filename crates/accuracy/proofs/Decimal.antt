@@ -1,8 +1,9 @@
 -- exp10 whole: every figure is right, exact at whole numbers from 0 to 10, in agreement with any other lawful one, and as IEEE 754-2019 has it at the special values.
-use Rattle.std.proofs.Common.{◌≡◌, ℕ, zero, suc, ◌+◌, ◌*◌, ◌^◌, ◌<◌, ◌≤◌, Bool, true, false, cond, not, ◌&&◌, T, ltb, leb, ◌⊎◌, [], ◌∷◌, ℤ, pos, sym, refl, ap, ◌∙◌, subst, inl, inr, le_trans, zero-lt-suc, arith, lit≤, eqb→eq, pow_pos, pow_mono}
-use lib.Ieee.{Float, nan, inf, fin, binary32, up, down, fits, is_nan, of_bits, to_bits, size}
-use lib.Ieee.Bits.{is_false}
-use lib.Ieee.Scale.{finite}
+use Rattle.std.proofs.Common.{◌≡◌, ℕ, zero, suc, ◌+◌, ◌*◌, ◌^◌, ◌<◌, ◌≤◌, Bool, true, false, cond, not, T, ltb, leb, [], ◌∷◌, ℤ, pos, sym, refl, ap, ◌∙◌, subst, inl, inr, le_trans, zero-lt-suc, arith, lit≤, eqb→eq, pow_pos, pow_mono, ltb-true, ltb-false, leb-true, leb-false}
+use Rattle.std.specs.Float.{Float, nan, inf, fin, binary32}
+use Rattle.std.specs.Float.Ieee.{up, fits, is_nan, of_bits, to_bits, size}
+use Rattle.std.specs.Float.Ieee.Bits.{is_false}
+use Rattle.std.specs.Float.Ieee.Scale.{finite}
 use Rattle.exact.specs.Fraction.{Same, whole}
 use Rattle.exact.specs.Logarithm.{decimal}
 use Rattle.exact.specs.Exact.{exp10}
@@ -11,34 +12,32 @@ use Rattle.exact.proofs.Integer.{x₀, x₁, x₂, x₃}
 use Rattle.exact.proofs.Rational.{ℚ, is, ◌+q◌, ◌*q◌, -q◌, ◌-q◌, ofℤ, qring}
 use Rattle.exact.proofs.Order.{nn, ◌≤q◌, le_by, q_refl, q_trans, q_add, q_mul}
 use Rattle.exact.proofs.Bound.{ofℕ, nn_ofℕ, ofℕ_mono, nn_le, le_nn, Bound, bound_more, bound_via, mul_right}
-use Rattle.exact.proofs.Compare.{whole_cls, nn_dy}
+use Rattle.exact.proofs.Compare.{whole_cls, nn_dy, dy}
 use Rattle.exact.proofs.Series.{S, from}
 use Rattle.exact.proofs.Logarithm.{low, low_near_root}
 use Rattle.exact.proofs.Powers.{raised_at, pow_whole}
 use Rattle.rounding.specs.Values.{value, is_zero}
-use Rattle.rounding.proofs.Fractions.{dy, frac_le_out}
+use Rattle.rounding.proofs.Fractions.{frac_le_out}
 use Rattle.rounding.proofs.Value.{val, val_value}
 use Rattle.rounding.proofs.Distance.{abs_nn}
 use Rattle.rounding.proofs.Patterns.{sized}
 use Rattle.arithmetic.specs.Arithmetic.{Arithmetic, Lawful}
-use Rattle.arithmetic.specs.Signs.{order}
 use Rattle.curves.specs.Steps.{pattern, magnitude, single}
 use Rattle.curves.specs.Exp10.{exp10_near_one, exp10_small_value, exp10_table_value, exp10_value, Exp10Reaches}
 use Rattle.curves.proofs.Law.{fma_law}
 use Rattle.curves.proofs.Sizes.{pattern_of, pattern_is}
 use Rattle.accuracy.specs.Figures.{Right, Agree, equal}
 use Rattle.accuracy.specs.Theorems.{CurveRight, CurveExact, CurveAgrees, CurveSpecial, Proved}
-use Rattle.accuracy.proofs.Inputs.{positive, negative, signed_of, numberless, zero_pattern}
+use Rattle.accuracy.proofs.Inputs.{positive, negative, signed_of, numberless}
 use Rattle.accuracy.proofs.Outcome.{sum, Under, Placed, under, right, agree, below_limit, plus_sign}
 use Rattle.accuracy.proofs.PowerInputs.{near_zero, size_up_to, from_pattern, down_from, exp10_last, exp10_first}
 use Rattle.accuracy.proofs.PowerLimits as Limits
 use Rattle.accuracy.proofs.PowerLimits.{last, first}
 use Rattle.accuracy.proofs.PowerBands.{infinite_right, zero_from, zero_right}
 use Rattle.accuracy.proofs.DecimalPolynomial.{small_wide}
-use Rattle.accuracy.proofs.DecimalTable.{wide, table_is_near, table_wide}
+use Rattle.accuracy.proofs.DecimalTable.{wide, by_row}
 use Rattle.accuracy.proofs.NearOne.{near_one_right, choice, stays_one, falls_below}
 use Rattle.accuracy.proofs.TenPowers.{ten_figure}
-use Rattle.accuracy.proofs.Tests.{less, not_less, up_to_is, not_up_to, both_hold, left_fails, right_fails, taken, left}
 
 -- ---- the band of a number, and its figure under every arithmetic
 pub data Band (x : Float) : Type 0 where
@@ -49,35 +48,18 @@ pub data Band (x : Float) : Type 0 where
   table : Exp10Reaches x → ((a : Arithmetic) → exp10_value a x ≡ exp10_table_value a x) → Band x
 
 pub band : (x : Float) → T (not (is_nan x)) → Band x
-band x number =
-    elim (order (pattern x) 0x8000_0000) [
-      | inl s ↦ elim (order (pattern x) 0x421a_209b) [
-        | inl g ↦ by_end (right_fails (ltb (pattern x) 0x8000_0000) (leb 0x421a_209b (pattern x)) (not_up_to 0x421a_209b (pattern x) g)) (inl g)
-        | inr g ↦ infinite s g (λ a. left (is_nan x) _ _ e₀ ∙ taken (ltb (pattern x) 0x8000_0000 && leb 0x421a_209b (pattern x)) _ _ (both_hold (ltb (pattern x) 0x8000_0000) (leb 0x421a_209b (pattern x)) (less (pattern x) 0x8000_0000 s) (up_to_is 0x421a_209b (pattern x) g)))
-      ]
-      | inr s ↦ by_end (left_fails (ltb (pattern x) 0x8000_0000) (leb 0x421a_209b (pattern x)) (not_less (pattern x) 0x8000_0000 s)) (inr s)
-    ]
+band x number = go (ltb (pattern x) 0x8000_0000) (leb 0x421a_209b (pattern x)) (leb 0xc234_9e36 (pattern x)) (leb (magnitude x) 0x3280_0000) (leb (magnitude x) 0x3d00_0000) refl refl refl refl refl
   where
-    e₀ : is_nan x ≡ false
-    e₀ = is_false (is_nan x) number
+    n : is_nan x ≡ false
+    n = is_false (is_nan x) number
 
-    by_size : (ltb (pattern x) 0x8000_0000 && leb 0x421a_209b (pattern x)) ≡ false → pattern x < 0xc234_9e36 → (pattern x < 0x421a_209b) ⊎ (0x8000_0000 ≤ pattern x) → Band x
-    by_size e₁ h₂ l =
-        let e₂ = not_up_to 0xc234_9e36 (pattern x) h₂ in
-        elim (order 0x3280_0000 (magnitude x)) [
-          | inl g ↦ elim (order 0x3d00_0000 (magnitude x)) [
-            | inl k ↦ table (record { number = number; past_small = k; limits = elim l [ inl u ↦ inl u | inr u ↦ inr (u, h₂) ] })
-                (λ a. left (is_nan x) _ _ e₀ ∙ left (ltb (pattern x) 0x8000_0000 && leb 0x421a_209b (pattern x)) _ _ e₁ ∙ left (leb 0xc234_9e36 (pattern x)) _ _ e₂ ∙ left (leb (magnitude x) 0x3280_0000) _ _ (not_up_to (magnitude x) 0x3280_0000 g) ∙ left (leb (magnitude x) 0x3d00_0000) _ _ (not_up_to (magnitude x) 0x3d00_0000 k))
-            | inr k ↦ small g k (λ a. left (is_nan x) _ _ e₀ ∙ left (ltb (pattern x) 0x8000_0000 && leb 0x421a_209b (pattern x)) _ _ e₁ ∙ left (leb 0xc234_9e36 (pattern x)) _ _ e₂ ∙ left (leb (magnitude x) 0x3280_0000) _ _ (not_up_to (magnitude x) 0x3280_0000 g) ∙ taken (leb (magnitude x) 0x3d00_0000) _ _ (up_to_is (magnitude x) 0x3d00_0000 k))
-          ]
-          | inr g ↦ one g (λ a. left (is_nan x) _ _ e₀ ∙ left (ltb (pattern x) 0x8000_0000 && leb 0x421a_209b (pattern x)) _ _ e₁ ∙ left (leb 0xc234_9e36 (pattern x)) _ _ e₂ ∙ taken (leb (magnitude x) 0x3280_0000) _ _ (up_to_is (magnitude x) 0x3280_0000 g))
-        ]
-
-    by_end : (ltb (pattern x) 0x8000_0000 && leb 0x421a_209b (pattern x)) ≡ false → (pattern x < 0x421a_209b) ⊎ (0x8000_0000 ≤ pattern x) → Band x
-    by_end e₁ l = elim (order (pattern x) 0xc234_9e36) [
-      | inl g ↦ by_size e₁ g l
-      | inr g ↦ zero_band g (λ a. left (is_nan x) _ _ e₀ ∙ left (ltb (pattern x) 0x8000_0000 && leb 0x421a_209b (pattern x)) _ _ e₁ ∙ taken (leb 0xc234_9e36 (pattern x)) _ _ (up_to_is 0xc234_9e36 (pattern x) g))
-    ]
+    go : (s u z p q : Bool) → ltb (pattern x) 0x8000_0000 ≡ s → leb 0x421a_209b (pattern x) ≡ u → leb 0xc234_9e36 (pattern x) ≡ z → leb (magnitude x) 0x3280_0000 ≡ p → leb (magnitude x) 0x3d00_0000 ≡ q → Band x
+    go true true z p q c d e f g = infinite (ltb-true _ _ c) (leb-true _ _ d) (λ a. simp (n, c, d))
+    go s u true p q c d e f g = zero_band (leb-true _ _ e) (λ a. simp (n, c, d, e))
+    go s u false true q c d e f g = one (leb-true _ _ f) (λ a. simp (n, c, d, e, f))
+    go s u false false true c d e f g = small (leb-false _ _ f) (leb-true _ _ g) (λ a. simp (n, c, d, e, f, g))
+    go true false false false false c d e f g = table record { number = number; past_small = leb-false _ _ g; limits = inl (leb-false _ _ d) } (λ a. simp (n, c, d, e, f, g))
+    go false u false false false c d e f g = table record { number = number; past_small = leb-false _ _ g; limits = inr (ltb-false _ _ c, leb-false _ _ e) } (λ a. simp (n, c, d, e, f, g))
 
 -- ---- right, and in agreement
 nums : (dy 1 5 ≤q last decimal) × (-q◌ (sized 0x4234_9e36) ≤q -q◌ (zero_from decimal))
@@ -100,14 +82,14 @@ module _ (x : Float) (w : T (fits binary32 x)) (t : T (finite x)) where
   right_at a v (zero_band h e) = zero_right decimal x (exp10_value a x) (e a ∙ singles.0) (q_trans (down_from x w t 0x4234_9e36 (omega arith)) nums.1)
   right_at a v (one h e) = subst (λ (y : Float). Right exp10 x y) (sym (e a)) (near_one_right x w t h)
   right_at a v (small g h e) = subst (λ (y : Float). Right exp10 x y) (sym (e a)) (right exp10 x _ 1 (small_placed h) (small_wide a.fma (fma_law a v) x t w (near_zero x w t h)))
-  right_at a v (table r e) = subst (λ (y : Float). Right exp10 x y) (sym (e a)) (right exp10 x _ 162 (under (table_under r)) (table_wide a v x w r))
+  right_at a v (table r e) = subst (λ (y : Float). Right exp10 x y) (sym (e a)) (right exp10 x _ 162 (under (table_under r)) (by_row a v x w r).wide)
 
   agree_at : (a b : Arithmetic) → Lawful a → Lawful b → Band x → Agree exp10 x (exp10_value a x) (exp10_value b x)
   agree_at a b v u (infinite s h e) = equal (e a ∙ sym (e b))
   agree_at a b v u (zero_band h e) = equal (e a ∙ sym (e b))
   agree_at a b v u (one h e) = equal (e a ∙ sym (e b))
   agree_at a b v u (small g h e) = subst (λ (y : Float). Agree exp10 x y (exp10_value b x)) (sym (e a)) (subst (λ (y : Float). Agree exp10 x (exp10_small_value a x) y) (sym (e b)) (agree exp10 x _ _ 1 (small_placed h) (small_wide a.fma (fma_law a v) x t w (near_zero x w t h)) (small_wide b.fma (fma_law b u) x t w (near_zero x w t h))))
-  agree_at a b v u (table r e) = subst (λ (y : Float). Agree exp10 x y (exp10_value b x)) (sym (e a)) (subst (λ (y : Float). Agree exp10 x (exp10_table_value a x) y) (sym (e b)) (agree exp10 x _ _ 162 (under (table_under r)) (table_wide a v x w r) (table_wide b u x w r)))
+  agree_at a b v u (table r e) = subst (λ (y : Float). Agree exp10 x y (exp10_value b x)) (sym (e a)) (subst (λ (y : Float). Agree exp10 x (exp10_table_value a x) y) (sym (e b)) (agree exp10 x _ _ 162 (under (table_under r)) (by_row a v x w r).wide (by_row b u x w r).wide))
 
 exp10_right : CurveRight exp10
 exp10_right a v x w t = right_at x w t a v (band x (numberless x t))
@@ -161,20 +143,14 @@ module _ (x : Float) (w : T (fits binary32 x)) (t : T (finite x)) (n : ℕ) (h :
   table_figure : (a : Arithmetic) (v : Lawful a) (r : Exp10Reaches x) → T (finite (exp10_table_value a x)) × Same (value (exp10_table_value a x)) (whole (10 ^ n))
   table_figure a v r =
       let z = wide a v x w r in
-      let b = table_wide a v x w r in
+      let b = (by_row a v x w r).wide in
       let nz : T (nn (val z)) = le_nn (q_trans (nn_le (nn_dy 1 162)) b.above) in
-      let k = table_is_near a v x w r in
+      let k = (by_row a v x w r).near in
       let m = k.start 0 + 1000 in
-      let s : Bound (sum exp10 (value x) 0 m -q ofℕ (10 ^ n)) (dy 1 74 *q ofℕ (10 ^ n)) = at_whole m (right_le (k.start 0) 1000) in
-      let q : Bound (val z -q sum exp10 (value x) 0 m) (dy 1 43 *q val z) = subst (λ (u : ℚ). Bound (val z -q sum exp10 (value x) 0 m) (dy 1 43 *q u)) (abs_nn (val z) nz) (k.off 0 m (left_le (k.start 0) 1000)) in
+      let s : Bound (sum exp10 (value x) 0 m -q ofℕ (10 ^ n)) (dy 1 74 *q ofℕ (10 ^ n)) = at_whole m (omega arith) in
+      let q : Bound (val z -q sum exp10 (value x) 0 m) (dy 1 43 *q val z) = subst (λ (u : ℚ). Bound (val z -q sum exp10 (value x) 0 m) (dy 1 43 *q u)) (abs_nn (val z) nz) (k.off 0 m (omega arith)) in
       ten_figure n h z k.is_finite (below_limit exp10 (value x) z nz b.near (table_under x w t r)) (plus_sign z 162 k.is_finite b.above) (near_whole (val z) (sum exp10 (value x) 0 m) (ofℕ (10 ^ n)) nz (nn_ofℕ (10 ^ n)) q s)
     where
-      left_le : (a b : ℕ) → a ≤ a + b
-      left_le a b = omega arith
-
-      right_le : (a b : ℕ) → b ≤ a + b
-      right_le a b = omega arith
-
       at_whole : (m : ℕ) → 1000 ≤ m → Bound (sum exp10 (value x) 0 m -q ofℕ (10 ^ n)) (dy 1 74 *q ofℕ (10 ^ n))
       at_whole m l =
           let d = raised_at decimal (pos n) (le_trans h (lit≤ tt)) (low decimal (from 80 0)) (low_near_root decimal 0) m l in
@@ -213,43 +189,20 @@ exp10_exact a v x w n h t e = exact_at x w t n h (val_value x ∙ is e ∙ whole
 -- ---- special values
 zero_number : (s : Bool) (m : ℕ) (e : ℤ) → m ≡ 0 → pattern (fin s m e) ≡ cond s 2147483648 0
 unfolding size
-zero_number s m e z = pattern_is s m e 0 (ap (λ (n : ℕ). n * up e * 2 ^ 149) z ∙ nil (up e) (down e)) ∙ go s
+zero_number s m e z = pattern_is s m e 0 (ap (λ (n : ℕ). n * up e * 2 ^ 149) z ∙ omega arith) ∙ go s
   where
-    nil : (u d : ℕ) → 0 * u * 2 ^ 149 ≡ 0 * d
-    nil u d = omega arith
-
     go : (s : Bool) → cond s 2147483648 0 + pattern_of 0 ≡ cond s 2147483648 0
     go false = refl
     go true = refl
 
 zero_at : (a : Arithmetic) (s : Bool) (m : ℕ) (e : ℤ) → m ≡ 0 → exp10_value a (fin s m e) ≡ fin false 1 (pos 0)
-unfolding of_bits
-zero_at a s m e z =
-    let x = fin s m e in
-    let p = zero_number s m e z in
-    let g : magnitude x ≡ 0 = zero_pattern s m e z in
-    left (is_nan x) _ _ (number s m e) ∙ left (ltb (pattern x) 0x8000_0000 && leb 0x421a_209b (pattern x)) _ _ (no_infinity s (pattern x) p) ∙ left (leb 0xc234_9e36 (pattern x)) _ _ (not_up_to 0xc234_9e36 (pattern x) (low_pattern s (pattern x) p)) ∙ taken (leb (magnitude x) 0x3280_0000) _ _ (up_to_is (magnitude x) 0x3280_0000 (omega arith))
-    ∙ left (leb 0xb25e_5bd9 (pattern x) && leb (pattern x) 0xb280_0000) _ _ (left_fails (leb 0xb25e_5bd9 (pattern x)) (leb (pattern x) 0xb280_0000) (not_up_to 0xb25e_5bd9 (pattern x) (lower s (pattern x) p)))
-  where
-    number : (s : Bool) (m : ℕ) (e : ℤ) → is_nan (fin s m e) ≡ false
-    number s m e = unfold is_nan in refl
-
-    low_pattern : (s : Bool) (p : ℕ) → p ≡ cond s 2147483648 0 → p < 0xc234_9e36
-    low_pattern false p e = omega arith
-    low_pattern true p e = omega arith
-
-    lower : (s : Bool) (p : ℕ) → p ≡ cond s 2147483648 0 → p < 0xb25e_5bd9
-    lower false p e = omega arith
-    lower true p e = omega arith
-
-    no_infinity : (s : Bool) (p : ℕ) → p ≡ cond s 2147483648 0 → (ltb p 0x8000_0000 && leb 0x421a_209b p) ≡ false
-    no_infinity false p e = right_fails (ltb p 0x8000_0000) (leb 0x421a_209b p) (not_up_to 0x421a_209b p (omega arith))
-    no_infinity true p e = left_fails (ltb p 0x8000_0000) (leb 0x421a_209b p) (not_less p 0x8000_0000 (omega arith))
+unfolding is_nan of_bits
+zero_at a false m e z = simp (zero_number false m e z)
+zero_at a true m e z = simp (zero_number true m e z)
 
 zero_value : (a : Arithmetic) (x : Float) → T (is_zero x) → exp10_value a x ≡ fin false 1 (pos 0)
-zero_value a nan t = absurd t
-zero_value a (inf s) t = absurd t
 zero_value a (fin s m e) t = zero_at a s m e (eqb→eq m 0 t)
+zero_value _ _ t = absurd t
 
 exp10_special : CurveSpecial exp10
 exp10_special a x = record {

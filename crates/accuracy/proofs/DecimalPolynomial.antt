@@ -1,20 +1,20 @@
 -- exp10 near zero: 1 + x p(x), p of seven terms by Horner's scheme, is within 2 ^ -43 of 10 ^ x, relative to it, before the narrowing.
 use Rattle.std.proofs.Common.{◌≡◌, ℕ, ◌≤◌, T, [], ◌∷◌, pos, sym, refl, subst, inr, le_trans, lit≤}
-use lib.Ieee.{Float, binary32, binary64, of_bits, fits}
-use lib.Ieee.Scale.{finite}
+use Rattle.std.specs.Float.{Float, binary32, binary64}
+use Rattle.std.specs.Float.Ieee.{of_bits, fits}
+use Rattle.std.specs.Float.Ieee.Scale.{finite}
 use Rattle.exact.specs.Logarithm.{decimal}
 use Rattle.exact.specs.Exact.{exp10}
 use Rattle.exact.proofs.Ring.{con, ◌⊕◌, ◌⊖◌, ◌⊗◌, ⊝, norm}
 use Rattle.exact.proofs.Integer.{x₀, x₁, x₂, x₃, x₄, x₅, x₆, x₇, x₈}
 use Rattle.exact.proofs.Rational.{ℚ, ◌+q◌, ◌*q◌, -q◌, ◌-q◌, ofℤ, qring}
 use Rattle.exact.proofs.Order.{nn, ◌≤q◌, q_trans}
-use Rattle.exact.proofs.Bound.{ofℕ, inv, Bound, bound_more, bound_add, bound_mul, bound_neg}
-use Rattle.exact.proofs.Compare.{nn_dy}
+use Rattle.exact.proofs.Bound.{ofℕ, inv, Bound, bound_more, bound_add, bound_mul, bound_neg, bound_is}
+use Rattle.exact.proofs.Compare.{nn_dy, dy}
 use Rattle.exact.proofs.Series.{term, S, R, later, tail}
 use Rattle.exact.proofs.Logarithm.{root}
 use Rattle.rounding.specs.Values.{value}
 use Rattle.rounding.specs.Ranges.{Ranged}
-use Rattle.rounding.proofs.Fractions.{dy}
 use Rattle.rounding.proofs.Value.{val}
 use Rattle.rounding.proofs.Range.{FmaLaw}
 use Rattle.curves.specs.Steps.{double, poly7}
@@ -55,7 +55,7 @@ ranges = ((tt, inr (lit≤ tt, lit≤ tt)), (tt, inr (lit≤ tt, lit≤ tt)), (t
 
 sizes : Bound (val s₀) (dy 11 2) × Bound (val s₁) (dy 11 2) × Bound (val s₂) (dy 11 2) × Bound (val s₃) (dy 11 2) × Bound (val s₄) (dy 11 2) × Bound (val s₅) (dy 11 2) × Bound (val s₆) (dy 3 0)
 unfolding nn ◌-q◌ ◌+q◌ -q◌ val of_bits
-sizes = (record { hi = record { le = tt }; lo = record { le = tt } }, record { hi = record { le = tt }; lo = record { le = tt } }, record { hi = record { le = tt }; lo = record { le = tt } }, record { hi = record { le = tt }; lo = record { le = tt } }, record { hi = record { le = tt }; lo = record { le = tt } }, record { hi = record { le = tt }; lo = record { le = tt } }, record { hi = record { le = tt }; lo = record { le = tt } })
+sizes = (bound_is tt tt, bound_is tt tt, bound_is tt tt, bound_is tt tt, bound_is tt tt, bound_is tt tt, bound_is tt tt)
 
 -- each step asks the same of its coefficient
 steps : Numbers X (dy 3 0) (dy 1 60) (dy 11 2) (dy 3 0) (dy 1 50) s₅ × Numbers X (dy 3 0) (dy 1 50) (dy 11 2) (dy 3 0) (dy 1 50) s₄ × Numbers X (dy 3 0) (dy 1 50) (dy 11 2) (dy 3 0) (dy 1 50) s₃ × Numbers X (dy 3 0) (dy 1 50) (dy 11 2) (dy 3 0) (dy 1 50) s₂ × Numbers X (dy 3 0) (dy 1 50) (dy 11 2) (dy 3 0) (dy 1 50) s₁ × Numbers X (dy 3 0) (dy 1 50) (dy 11 2) (dy 3 0) (dy 1 50) s₀
@@ -138,12 +138,12 @@ seven_terms t l =
 
 diff : Bound (val unit -q ofℕ 1) (dy 1 60) × Bound (val s₀ -q q₁) (dy 1 51) × Bound (val s₁ -q q₂) (dy 1 38) × Bound (val s₂ -q q₃) (dy 1 37) × Bound (val s₃ -q q₄) (dy 9 29) × Bound (val s₄ -q q₅) (dy 1 26) × Bound (val s₅ -q q₆) (dy 9 18) × Bound (val s₆ -q q₇) (dy 1 21)
 unfolding nn ◌-q◌ ◌+q◌ -q◌ ◌*q◌ ofℕ ofℤ val of_bits inv
-diff = (record { hi = record { le = tt }; lo = record { le = tt } }, record { hi = record { le = tt }; lo = record { le = tt } }, record { hi = record { le = tt }; lo = record { le = tt } }, record { hi = record { le = tt }; lo = record { le = tt } }, record { hi = record { le = tt }; lo = record { le = tt } }, record { hi = record { le = tt }; lo = record { le = tt } }, record { hi = record { le = tt }; lo = record { le = tt } }, record { hi = record { le = tt }; lo = record { le = tt } })
+diff = (bound_is tt tt, bound_is tt tt, bound_is tt tt, bound_is tt tt, bound_is tt tt, bound_is tt tt, bound_is tt tt, bound_is tt tt)
 
 series_nums : (X *q (X *q (X *q (X *q (X *q (X *q (X *q dy 1 21 +q dy 9 18) +q dy 1 26) +q dy 9 29) +q dy 1 37) +q dy 1 38) +q dy 1 51) +q dy 1 60 ≤q dy 61 50) × (X *q dy 2359 10 +q X *q dy 2359 10 ≤q ofℕ 7) × (R (X *q dy 2359 10) 7 ≤q dy 41 50) × Bound (root decimal) (dy 2359 10)
     × (dy 61 50 +q dy 41 50 +q dy 1 51 ≤q dy 120 50 *q dy 28 5) × (dy 120 50 +q (dy 1 84 +q dy 1 84) +q dy 120 50 *q (dy 1 84 +q dy 1 84) +q dy 1 90 ≤q dy 1 43) × (dy 1 43 ≤q close) × (dy 1 1 ≤q dy 28 5)
 unfolding nn ◌-q◌ ◌+q◌ -q◌ ◌*q◌ ofℕ ofℤ term inv
-series_nums = (record { le = tt }, record { le = tt }, record { le = tt }, record { hi = record { le = tt }; lo = record { le = tt } }, record { le = tt }, record { le = tt }, record { le = tt }, record { le = tt })
+series_nums = (record { le = tt }, record { le = tt }, record { le = tt }, bound_is tt tt, record { le = tt }, record { le = tt }, record { le = tt }, record { le = tt })
 
 module _ (t : ℚ) (bt : Bound t (dy 1 5)) where
   seven_near : Bound (seven t *q t +q val unit -q S (t *q root decimal) 7) (dy 61 50)

@@ -1,24 +1,22 @@
 -- exp10 by its table: the f64 before the narrowing is within 2 ^ -43 of 10 ^ x, relative to it, under every lawful arithmetic.
-use Rattle.std.proofs.Common.{◌≡◌, ℕ, ◌^◌, ◌≤◌, T, [], ◌∷◌, ℤ, pos, negsuc, ◌+ℤ◌, ◌*ℤ◌, neg_ℤ, nat_abs, ◌≤ℤ◌, refl, ap, ◌∙◌, subst, inr, zero-lt-suc, arith, lit≤}
-use lib.Signed.{shr_z}
-use lib.Ieee.{Float, binary32, binary64, mul, of_bits, fits}
-use lib.Ieee.Scale.{finite}
-use borrow.Author.Differences.{ints}
+use Rattle.std.proofs.Common.{◌≡◌, ℕ, ◌≤◌, T, [], ◌∷◌, ℤ, pos, negsuc, ◌+ℤ◌, ◌*ℤ◌, neg_ℤ, nat_abs, ◌≤ℤ◌, refl, ap, ◌∙◌, subst, inr, zero-lt-suc, arith, lit≤}
+use Rattle.std.specs.Int.Signed.{shr_z}
+use Rattle.std.specs.Float.{Float, binary32, binary64}
+use Rattle.std.specs.Float.Ieee.{mul, of_bits, fits}
+use Rattle.std.specs.Float.Ieee.Scale.{finite}
+use Rattle.std.proofs.lemmas.Int.{ints}
 use std.Quotient.{cls}
 use Rattle.exact.specs.Logarithm.{binary, decimal}
-use Rattle.exact.specs.Exact.{exp10}
 use Rattle.exact.proofs.Ring.{con, ◌⊕◌, ◌⊖◌, ◌⊗◌, ⊝, norm}
 use Rattle.exact.proofs.Integer.{zring, x₀, x₁, x₂, x₃, x₄, x₅, x₆}
 use Rattle.exact.proofs.Rational.{ℚ, is, ◌+q◌, ◌*q◌, -q◌, ◌-q◌, ofℤ, qring}
-use Rattle.exact.proofs.Order.{nn, ◌≤q◌, q_trans}
-use Rattle.exact.proofs.Bound.{ofℕ, inv, nn_le, le_nn, Bound, bound_more, bound_add, bound_mul, bound_neg}
-use Rattle.exact.proofs.Compare.{fr, nn_dy}
-use Rattle.exact.proofs.Series.{term, S, from}
+use Rattle.exact.proofs.Order.{nn, ◌≤q◌}
+use Rattle.exact.proofs.Bound.{ofℕ, inv, Bound, bound_more, bound_add, bound_mul, bound_neg, bound_is}
+use Rattle.exact.proofs.Compare.{fr, dy}
+use Rattle.exact.proofs.Series.{term, from}
 use Rattle.exact.proofs.Logarithm.{root, low, low_near_root}
-use Rattle.rounding.specs.Values.{value}
 use Rattle.rounding.specs.Units.{power}
-use Rattle.rounding.proofs.Fractions.{dy}
-use Rattle.rounding.proofs.Value.{val, val_value}
+use Rattle.rounding.proofs.Value.{val}
 use Rattle.rounding.proofs.WholeNumber.{NearWhole}
 use Rattle.arithmetic.specs.Arithmetic.{Arithmetic, Lawful}
 use Rattle.curves.specs.Tables.{table_exp2_mid}
@@ -27,9 +25,8 @@ use Rattle.curves.specs.Exp10.{log2_ten, kd, k, lo, hi, Exp10Reaches}
 use Rattle.curves.specs.Split.{InPowers}
 use Rattle.curves.proofs.Decimal.{step, most_lo, Ready, input, input_size, input_ready, input_round, k_value, k_powers, k_size, lo_off, lo_size, lo_ready, hi_scaled}
 use Rattle.curves.proofs.Law.{fma_law, near_whole}
-use Rattle.accuracy.proofs.Outcome.{Near, near_positive, nearer, close, Wide}
 use Rattle.accuracy.proofs.PowerProduct.{Coefficients}
-use Rattle.accuracy.proofs.PowerTable.{part_split, Approximates, mh_low, mh_high, table_near, table_finite, table_low}
+use Rattle.accuracy.proofs.PowerTable.{part_split, Approximates, FromRow, from_row}
 use Rattle.accuracy.proofs.PowerRows.{mid_rule}
 
 -- ---- the coefficients
@@ -56,11 +53,11 @@ coefficients = record {
   in₂ = (tt, inr (lit≤ tt, lit≤ tt));
   in₃ = (tt, inr (lit≤ tt, lit≤ tt));
   in₄ = (tt, inr (lit≤ tt, lit≤ tt));
-  size₀ = record { hi = record { le = tt }; lo = record { le = tt } };
-  size₁ = record { hi = record { le = tt }; lo = record { le = tt } };
-  size₂ = record { hi = record { le = tt }; lo = record { le = tt } };
-  size₃ = record { hi = record { le = tt }; lo = record { le = tt } };
-  size₄ = record { hi = record { le = tt }; lo = record { le = tt } };
+  size₀ = bound_is tt tt;
+  size₁ = bound_is tt tt;
+  size₂ = bound_is tt tt;
+  size₃ = bound_is tt tt;
+  size₄ = bound_is tt tt;
   low₁ = record { le = tt };
   low₃ = record { le = tt };
 }
@@ -74,12 +71,12 @@ approximates = record {
   D₂ = dy 1 34;
   D₃ = dy 1 17;
   D₄ = dy 1 20;
-  root_size = record { hi = record { le = tt }; lo = record { le = tt } };
-  near₀ = record { hi = record { le = tt }; lo = record { le = tt } };
-  near₁ = record { hi = record { le = tt }; lo = record { le = tt } };
-  near₂ = record { hi = record { le = tt }; lo = record { le = tt } };
-  near₃ = record { hi = record { le = tt }; lo = record { le = tt } };
-  near₄ = record { hi = record { le = tt }; lo = record { le = tt } };
+  root_size = bound_is tt tt;
+  near₀ = bound_is tt tt;
+  near₁ = bound_is tt tt;
+  near₂ = bound_is tt tt;
+  near₃ = bound_is tt tt;
+  near₄ = bound_is tt tt;
   all = record { le = tt };
   far = record { le = tt };
   rest = record { le = tt };
@@ -109,11 +106,11 @@ powers_small z h = go (shr_z z 32) h.low h.high
 -- ---- the numbers: 1 / 32 of ln 2 over ln 10 is the step of the reduction
 step_near : Bound (step *q root decimal +q inv 31 *q root binary) (dy 1 90) × Bound (root decimal) (dy 2359 10)
 unfolding nn ◌-q◌ ◌+q◌ -q◌ ◌*q◌ val of_bits ofℕ ofℤ inv
-step_near = (record { hi = record { le = tt }; lo = record { le = tt } }, record { hi = record { le = tt }; lo = record { le = tt } })
+step_near = (bound_is tt tt, bound_is tt tt)
 
-nums : (ofℕ 46 *q dy 1 84 +q (dy 1 60 *q dy 2359 10 +q ofℕ 4923 *q dy 1 90) ≤q dy 1 58) × (most_lo ≤q dy 1 7) × (dy 1 43 ≤q close)
+nums : (ofℕ 46 *q dy 1 84 +q (dy 1 60 *q dy 2359 10 +q ofℕ 4923 *q dy 1 90) ≤q dy 1 58) × (most_lo ≤q dy 1 7)
 unfolding nn ◌-q◌ ◌+q◌ -q◌ ◌*q◌ ofℕ ofℤ
-nums = (record { le = tt }, record { le = tt }, record { le = tt })
+nums = (record { le = tt }, record { le = tt })
 
 module _ (a : Arithmetic) (v : Lawful a) (x : Float) (w : T (fits binary32 x)) (t : Exp10Reaches x) where
   near_k : NearWhole binary64 (mul binary64 log2_ten x) (kd a x)
@@ -156,23 +153,6 @@ module _ (a : Arithmetic) (v : Lawful a) (x : Float) (w : T (fits binary32 x)) (
       ring : (x l e o k m v : ℚ) → x *q (l -q e) +q (-q◌ ((o -q (x +q k *q m)) *q e) +q -q◌ (k *q (m *q e +q v))) ≡ x *q l -q (k *q v +q o *q e)
       ring x l e o k m v = unfold norm ◌-q◌ in qring (x₀ ⊗ (x₁ ⊖ x₂) ⊕ (⊝ ((x₃ ⊖ (x₀ ⊕ x₄ ⊗ x₅)) ⊗ x₂) ⊕ ⊝ (x₄ ⊗ (x₅ ⊗ x₂ ⊕ x₆)))) (x₀ ⊗ x₁ ⊖ (x₄ ⊗ x₆ ⊕ x₃ ⊗ x₂)) refl (x ∷ l ∷ e ∷ o ∷ k ∷ m ∷ v ∷ [])
 
-  pub hi_low : dy 1 160 ≤q val (hi a x)
-  hi_low = mh_low decimal most_lo nums.1 k₀ k₁ k₂ k₃ k₄ coefficients approximates a.fma (fma_law a v) (lo a x) (hi a x) lo_fine lo_small (shr_z (k a x) 32) (powers_small (k a x) powers) (row table_exp2_mid (row_of 32 (k a x))) _ (mid_rule (row_of 32 (k a x)) powers.row) row_scaled.0 row_scaled.1
-
-  pub hi_high : val (hi a x) ≤q ofℕ (2 ^ 160)
-  hi_high = mh_high decimal most_lo nums.1 k₀ k₁ k₂ k₃ k₄ coefficients approximates a.fma (fma_law a v) (lo a x) (hi a x) lo_fine lo_small (shr_z (k a x) 32) (powers_small (k a x) powers) (row table_exp2_mid (row_of 32 (k a x))) _ (mid_rule (row_of 32 (k a x)) powers.row) row_scaled.0 row_scaled.1
-
-  pub wide_low : dy 1 162 ≤q val wide
-  wide_low = table_low decimal most_lo nums.1 k₀ k₁ k₂ k₃ k₄ coefficients approximates a.fma (fma_law a v) (lo a x) (hi a x) lo_fine lo_small (shr_z (k a x) 32) (powers_small (k a x) powers) (row table_exp2_mid (row_of 32 (k a x))) _ (mid_rule (row_of 32 (k a x)) powers.row) row_scaled.0 row_scaled.1
-
   -- the f64 before the narrowing
-  pub table_is_near : Near exp10 (value x) (dy 1 43) wide
-  table_is_near =
-      near_positive exp10 (value x) (dy 1 43) wide
-      (table_finite decimal most_lo nums.1 k₀ k₁ k₂ k₃ k₄ coefficients approximates a.fma (fma_law a v) (lo a x) (hi a x) lo_fine lo_small (shr_z (k a x) 32) (powers_small (k a x) powers) (row table_exp2_mid (row_of 32 (k a x))) _ (mid_rule (row_of 32 (k a x)) powers.row) row_scaled.0 row_scaled.1)
-      (le_nn (q_trans (nn_le (nn_dy 1 162)) wide_low)) (λ j. 1000) (λ j n l.
-      subst (λ (u : ℚ). Bound (val wide -q S (u *q low decimal (from 80 j)) n) (dy 1 43 *q val wide)) (val_value x)
-      (table_near decimal most_lo nums.1 k₀ k₁ k₂ k₃ k₄ coefficients approximates a.fma (fma_law a v) (lo a x) (hi a x) lo_fine lo_small (shr_z (k a x) 32) (powers_small (k a x) powers) (row table_exp2_mid (row_of 32 (k a x))) _ (mid_rule (row_of 32 (k a x)) powers.row) row_scaled.0 row_scaled.1 n l (val x *q low decimal (from 80 j)) (split j)))
-
-  pub table_wide : Wide exp10 (value x) 162 wide
-  table_wide = record { above = wide_low; near = nearer close nums.2 table_is_near }
+  pub by_row : FromRow decimal x (hi a x) wide
+  by_row = from_row decimal most_lo nums.1 k₀ k₁ k₂ k₃ k₄ coefficients approximates a.fma (fma_law a v) (lo a x) (hi a x) lo_fine lo_small (shr_z (k a x) 32) (powers_small (k a x) powers) (row table_exp2_mid (row_of 32 (k a x))) _ (mid_rule (row_of 32 (k a x)) powers.row) row_scaled.0 row_scaled.1 x split

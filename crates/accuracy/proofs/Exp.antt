@@ -1,9 +1,10 @@
 -- exp whole: its bands in order, each with what is promised of its figure.
-use Rattle.std.proofs.Common.{◌≡◌, ℕ, ◌<◌, ◌≤◌, Bool, true, false, cond, not, ◌&&◌, T, ltb, leb, ◌⊎◌, [], ◌∷◌, ℤ, pos, sym, refl, ap, ◌∙◌, subst, ap₂, inl, inr, zero-le, arith, eqb→eq, ltb→lt, leb→le, nltb→le}
-use lib.Dec.{nleb→lt}
-use lib.Ieee.{Float, nan, inf, fin, binary32, fits, is_nan, of_bits, to_bits}
-use lib.Ieee.Bits.{is_false}
-use lib.Ieee.Scale.{finite}
+use Rattle.std.proofs.Common.{◌≡◌, ℕ, ◌<◌, ◌≤◌, Bool, true, false, not, T, ltb, leb, [], ◌∷◌, ℤ, pos, sym, refl, ap, ◌∙◌, subst, inl, inr, zero-le, arith, eqb→eq, ltb-true, ltb-false, leb-true, leb-false}
+use Rattle.std.specs.Float.{Float, inf, fin, binary32}
+use Rattle.std.specs.Float.Ieee.{fits, is_nan, of_bits, to_bits}
+use Rattle.std.specs.Float.Ieee.Bits.{is_false}
+use Rattle.std.specs.Float.Ieee.Scale.{finite}
+use Rattle.std.proofs.lemmas.Bool.{cases_lt}
 use Rattle.exact.specs.Exact.{exp}
 use Rattle.exact.proofs.Ring.{⊝, norm}
 use Rattle.exact.proofs.Integer.{x₀}
@@ -19,7 +20,7 @@ use Rattle.curves.specs.Steps.{pattern, magnitude, single}
 use Rattle.curves.specs.Exp.{exp_tables_value, exp_value, ExpReaches}
 use Rattle.accuracy.specs.Figures.{Right, Agree, equal}
 use Rattle.accuracy.specs.Theorems.{CurveRight, CurveAgrees, CurveSpecial, Proved}
-use Rattle.accuracy.proofs.Inputs.{positive, negative, signed_of, numberless, decide, sized_bound, zero_pattern}
+use Rattle.accuracy.proofs.Inputs.{positive, negative, signed_of, numberless, sized_bound, zero_pattern}
 use Rattle.accuracy.proofs.ExpLimit.{last_under, first_over, Beside, exp_infinite}
 use Rattle.accuracy.proofs.ExpBands.{near_one, zero_from, lowest}
 use Rattle.accuracy.proofs.ExpTables.{tables_right, tables_agree}
@@ -31,36 +32,18 @@ pub data Band (x : Float) : Type 0 where
   infinite : pattern x < 0x8000_0000 → 0x42b2_0000 ≤ pattern x → ((a : Arithmetic) → exp_value a x ≡ single 0x7f80_0000) → Band x
   tables : ExpReaches x → ((a : Arithmetic) → exp_value a x ≡ exp_tables_value a x) → Band x
 
--- four tests in order
-abbrev choose : Arithmetic → Float → Bool → Bool → Bool → Bool → Float
-choose a x p q r s = cond p (single 0x7fc0_0000) (cond q (single 0x3f80_0000) (cond r (single 0x0000_0000) (cond s (single 0x7f80_0000) (exp_tables_value a x))))
-
-taken : (a : Arithmetic) (x : Float) (p q r s : Bool) → is_nan x ≡ p → leb (magnitude x) 0x3280_0000 ≡ q → leb 0xc2cf_f1b5 (pattern x) ≡ r → ltb (pattern x) 0x8000_0000 && leb 0x42b2_0000 (pattern x) ≡ s → exp_value a x ≡ choose a x p q r s
-taken a x p q r s e f g h =
-    ap (λ (b : Bool). choose a x b (leb (magnitude x) 0x3280_0000) (leb 0xc2cf_f1b5 (pattern x)) (ltb (pattern x) 0x8000_0000 && leb 0x42b2_0000 (pattern x))) e
-    ∙ ap (λ (b : Bool). choose a x p b (leb 0xc2cf_f1b5 (pattern x)) (ltb (pattern x) 0x8000_0000 && leb 0x42b2_0000 (pattern x))) f
-    ∙ ap (λ (b : Bool). choose a x p q b (ltb (pattern x) 0x8000_0000 && leb 0x42b2_0000 (pattern x))) g
-    ∙ ap (λ (b : Bool). choose a x p q r b) h
-
 band : (x : Float) → T (not (is_nan x)) → Band x
 band x t = go (leb (magnitude x) 0x3280_0000) (leb 0xc2cf_f1b5 (pattern x)) (ltb (pattern x) 0x8000_0000) (leb 0x42b2_0000 (pattern x)) refl refl refl refl
   where
     n : is_nan x ≡ false
     n = is_false (is_nan x) t
 
-    after : {b c : Bool} → b ≡ c → T c → T b
-    after {b} {c} e t = subst T (sym e) t
-
-    after_not : {b c : Bool} → b ≡ c → T (not c) → T (not b)
-    after_not {b} {c} e t = subst (λ (d : Bool). T (not d)) (sym e) t
-
     go : (q r s u : Bool) → leb (magnitude x) 0x3280_0000 ≡ q → leb 0xc2cf_f1b5 (pattern x) ≡ r → ltb (pattern x) 0x8000_0000 ≡ s → leb 0x42b2_0000 (pattern x) ≡ u → Band x
-    go true r s u e f g h = one (leb→le (magnitude x) 0x3280_0000 (after e tt)) (λ a. taken a x false true r (s && u) n e f (ap₂ (λ (b c : Bool). b && c) g h))
-    go false true s u e f g h = zero (leb→le 0xc2cf_f1b5 (pattern x) (after f tt)) (λ a. taken a x false false true (s && u) n e f (ap₂ (λ (b c : Bool). b && c) g h))
-    go false false true true e f g h = infinite (ltb→lt (pattern x) 0x8000_0000 (after g tt)) (leb→le 0x42b2_0000 (pattern x) (after h tt)) (λ a. taken a x false false false true n e f (ap₂ (λ (b c : Bool). b && c) g h))
-    go false false true false e f g h = tables record { number = t; past_one = nleb→lt (magnitude x) 0x3280_0000 (after_not e tt); limits = inl (nleb→lt 0x42b2_0000 (pattern x) (after_not h tt)) } (λ a. taken a x false false false false n e f (ap₂ (λ (b c : Bool). b && c) g h))
-    go false false false true e f g h = tables record { number = t; past_one = nleb→lt (magnitude x) 0x3280_0000 (after_not e tt); limits = inr (nltb→le (pattern x) 0x8000_0000 (after_not g tt), nleb→lt 0xc2cf_f1b5 (pattern x) (after_not f tt)) } (λ a. taken a x false false false false n e f (ap₂ (λ (b c : Bool). b && c) g h))
-    go false false false false e f g h = tables record { number = t; past_one = nleb→lt (magnitude x) 0x3280_0000 (after_not e tt); limits = inr (nltb→le (pattern x) 0x8000_0000 (after_not g tt), nleb→lt 0xc2cf_f1b5 (pattern x) (after_not f tt)) } (λ a. taken a x false false false false n e f (ap₂ (λ (b c : Bool). b && c) g h))
+    go true r s u e f g h = one (leb-true _ _ e) (λ a. simp (n, e))
+    go false true s u e f g h = zero (leb-true _ _ f) (λ a. simp (n, e, f))
+    go false false true true e f g h = infinite (ltb-true _ _ g) (leb-true _ _ h) (λ a. simp (n, e, f, g, h))
+    go false false true false e f g h = tables record { number = t; past_one = leb-false _ _ e; limits = inl (leb-false _ _ h) } (λ a. simp (n, e, f, g, h))
+    go false false false u e f g h = tables record { number = t; past_one = leb-false _ _ e; limits = inr (ltb-false _ _ g, leb-false _ _ f) } (λ a. simp (n, e, f, g, h))
 
 -- ---- the values of the bands' ends
 ends : (sized 0x3280_0000 ≤q dy 1 25) × (zero_from ≤q sized 0x42cf_f1b5) × (first_over ≤q sized 0x42b2_0000) × (sized 0x42b1_7217 ≤q last_under) × (first_over ≤q sized 0x42b1_7218) × (-q◌ (sized 0) ≤q last_under)
@@ -89,13 +72,12 @@ module _ (x : Float) (w : T (fits binary32 x)) (t : T (finite x)) where
 
   pub beside : Beside (val x)
   beside = elim (signed_of x w t) [
-    | positive k m v ↦ go v (decide (ltb (pattern x) 0x42b1_7218))
+    | positive k m v ↦ elim (cases_lt (pattern x) 0x42b1_7218) [
+      | inl l ↦ inl (subst (λ (u : ℚ). u ≤q last_under) (sym v) (q_trans (sized_mono (pattern x) 0x42b1_7217 (omega arith)) ends.3))
+      | inr h ↦ inr (subst (λ (u : ℚ). first_over ≤q u) (sym v) (q_trans ends.4 (sized_mono 0x42b1_7218 (pattern x) h)))
+    ]
     | negative k m v ↦ inl (subst (λ (u : ℚ). u ≤q last_under) (sym v) (q_trans (q_neg (sized_mono 0 (magnitude x) (zero-le))) ends.5))
   ]
-    where
-      go : val x ≡ sized (pattern x) → T (ltb (pattern x) 0x42b1_7218) ⊎ T (not (ltb (pattern x) 0x42b1_7218)) → Beside (val x)
-      go v (inl h) = let l = ltb→lt (pattern x) 0x42b1_7218 h in inl (subst (λ (u : ℚ). u ≤q last_under) (sym v) (q_trans (sized_mono (pattern x) 0x42b1_7217 (omega arith)) ends.3))
-      go v (inr h) = inr (subst (λ (u : ℚ). first_over ≤q u) (sym v) (q_trans ends.4 (sized_mono 0x42b1_7218 (pattern x) (nltb→le (pattern x) 0x42b1_7218 h))))
 
 pub infinity : single 0x7f80_0000 ≡ inf false
 unfolding of_bits
@@ -122,12 +104,11 @@ exp_agrees_lem a b w u x fx t = go (band x (numberless x t))
 
 at_one : (a : Arithmetic) (s : Bool) (m : ℕ) (e : ℤ) → m ≡ 0 → exp_value a (fin s m e) ≡ fin false 1 (pos 0)
 unfolding is_nan of_bits
-at_one a s m e z = ap (λ (q : ℕ). cond (leb q 0x3280_0000) (single 0x3f80_0000) (cond (leb 0xc2cf_f1b5 (pattern (fin s m e))) (single 0x0000_0000) (cond (ltb (pattern (fin s m e)) 0x8000_0000 && leb 0x42b2_0000 (pattern (fin s m e))) (single 0x7f80_0000) (exp_tables_value a (fin s m e))))) (zero_pattern s m e z)
+at_one a s m e z = simp (zero_pattern s m e z)
 
 pub of_zero : (a : Arithmetic) (x : Float) → T (is_zero x) → exp_value a x ≡ fin false 1 (pos 0)
-of_zero a nan t = absurd t
-of_zero a (inf s) t = absurd t
 of_zero a (fin s m e) t = at_one a s m e (eqb→eq m 0 t)
+of_zero _ _ t = absurd t
 
 pub exp_special : CurveSpecial exp
 unfolding is_nan of_bits to_bits

@@ -1,7 +1,8 @@
 -- exp where no table is read: 1 near zero, and +0 far below it.
 use Rattle.std.proofs.Common.{◌≡◌, ℕ, suc, ◌+◌, ◌-◌, ◌*◌, ◌^◌, ◌≤◌, T, [], ◌∷◌, pos, sym, refl, ap, ◌∙◌, subst, zero-lt-suc, lit≤, pow_pos}
-use lib.Ieee.{Float, binary32, of_bits, size}
-use lib.Ieee.Scale.{finite}
+use Rattle.std.specs.Float.{Float, binary32}
+use Rattle.std.specs.Float.Ieee.{of_bits, size}
+use Rattle.std.specs.Float.Ieee.Scale.{finite}
 use std.Quotient.{cls}
 use Rattle.exact.specs.Fraction.{opposite, times}
 use Rattle.exact.specs.Exact.{exp}

@@ -1,6 +1,6 @@
 -- The two f32 between which e ^ x reaches 2 ^ 128 - 2 ^ 103, for exp and expm1: from the one on the sums are above the limit, and up to the other below it.
 use Rattle.std.proofs.Common.{◌≡◌, ℕ, ◌+◌, ◌-◌, ◌*◌, ◌^◌, ◌≤◌, Bool, true, false, not, T, ◌⊎◌, [], ◌∷◌, pos, refl, subst, inl, inr, le_trans, zero-lt-suc, lit≤, pow_pos}
-use lib.Ieee.{Float, inf}
+use Rattle.std.specs.Float.{Float, inf}
 use std.Quotient.{cls}
 use Rattle.exact.specs.Fraction.{Fraction}
 use Rattle.exact.specs.Exact.{exp, expm1}

@@ -1,16 +1,17 @@
 -- The polynomial of exp and expm1 beside their table rows, for |t| at most 1/256: five coefficients, near the series.
 use Rattle.std.proofs.Common.{◌≡◌, ℕ, ◌^◌, ◌≤◌, T, [], ◌∷◌, pos, sym, refl, subst, inr, lit≤}
-use lib.Ieee.{Float, binary32, binary64, fits, of_bits}
-use lib.Ieee.Scale.{finite}
+use Rattle.std.specs.Float.{Float, binary32, binary64}
+use Rattle.std.specs.Float.Ieee.{fits, of_bits}
+use Rattle.std.specs.Float.Ieee.Scale.{finite}
 use Rattle.exact.proofs.Ring.{con, ◌⊕◌, ◌⊖◌, ◌⊗◌, ⊝, norm}
 use Rattle.exact.proofs.Integer.{x₀, x₁, x₂, x₃, x₄}
 use Rattle.exact.proofs.Rational.{ℚ, ◌+q◌, ◌*q◌, -q◌, ◌-q◌, ofℤ, qring}
 use Rattle.exact.proofs.Order.{nn, nn_add, ◌≤q◌, le_by, q_trans, q_mul}
-use Rattle.exact.proofs.Bound.{ofℕ, inv, Bound, bound_more, bound_add, bound_mul, bound_turn, bound_via}
+use Rattle.exact.proofs.Bound.{ofℕ, inv, Bound, bound_more, bound_add, bound_mul, bound_turn, bound_via, bound_is}
 use Rattle.exact.proofs.Relative.{Rel}
 use Rattle.exact.proofs.Series.{term, S, R, from, later, tail}
 use Rattle.rounding.specs.Ranges.{Ranged}
-use Rattle.rounding.proofs.Fractions.{dy}
+use Rattle.exact.proofs.Compare.{dy}
 use Rattle.rounding.proofs.Value.{val}
 use Rattle.rounding.proofs.Horner.{Ball, ball_size}
 use Rattle.rounding.proofs.Range.{FmaLaw}
@@ -39,16 +40,16 @@ in_range = ((tt, inr (lit≤ tt, lit≤ tt)), (tt, inr (lit≤ tt, lit≤ tt)), 
 sizes : Bound (val c₀) (dy 1 0) × Bound (val c₁) (dy 1 0) × Bound (val c₂) (dy 1 0) × Bound (val c₃) (dy 1 0) × Bound (val c₄) (dy 2 0)
 unfolding nn ◌-q◌ ◌+q◌ -q◌ val of_bits
 sizes = (
-  record { hi = record { le = tt }; lo = record { le = tt } },
-  record { hi = record { le = tt }; lo = record { le = tt } },
-  record { hi = record { le = tt }; lo = record { le = tt } },
-  record { hi = record { le = tt }; lo = record { le = tt } },
-  record { hi = record { le = tt }; lo = record { le = tt } },
+  bound_is tt tt,
+  bound_is tt tt,
+  bound_is tt tt,
+  bound_is tt tt,
+  bound_is tt tt,
 )
 
 start : Stage c₄ (val c₄) (dy 2 0) (dy 1 52)
 unfolding nn ◌-q◌ ◌+q◌ -q◌ val of_bits
-start = record { ball = record { is_finite = tt; off = record { hi = record { le = tt }; lo = record { le = tt } }; size = sizes.4 }; range = in_range.4 }
+start = record { ball = record { is_finite = tt; off = bound_is tt tt; size = sizes.4 }; range = in_range.4 }
 
 abbrev Fine : Float → Type 0
 Fine a = Numbers (dy 1 8) (dy 2 0) (dy 1 52) (dy 1 0) (dy 2 0) (dy 1 52) a
@@ -104,11 +105,11 @@ q₄ = inv 0 *q inv 1 *q inv 2 *q inv 3
 coefficients : (Bound (val c₀ -q ofℕ 1) (dy 1 60)) × (Bound (val c₁ -q q₁) (dy 9 45)) × (Bound (val c₂ -q q₂) (dy 1 42)) × (Bound (val c₃ -q q₃) (dy 137 30)) × (Bound (val c₄ -q q₄) (dy 1 37))
 unfolding nn ◌-q◌ ◌+q◌ -q◌ ◌*q◌ ofℕ ofℤ val of_bits inv
 coefficients = (
-  record { hi = record { le = tt }; lo = record { le = tt } },
-  record { hi = record { le = tt }; lo = record { le = tt } },
-  record { hi = record { le = tt }; lo = record { le = tt } },
-  record { hi = record { le = tt }; lo = record { le = tt } },
-  record { hi = record { le = tt }; lo = record { le = tt } },
+  bound_is tt tt,
+  bound_is tt tt,
+  bound_is tt tt,
+  bound_is tt tt,
+  bound_is tt tt,
 )
 
 S_four : (t : ℚ) → S t 4 ≡ t *q (t *q (t *q (t *q q₄ +q q₃) +q q₂) +q q₁) +q ofℕ 1

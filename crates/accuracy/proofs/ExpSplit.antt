@@ -1,20 +1,21 @@
 -- The split of exp and expm1 in rationals: x is the sum of the two rows' arguments and lo, and every argument of the split and of the polynomial lies in the law's ranges.
 use Rattle.std.proofs.Common.{◌≡◌, ℕ, ◌+◌, ◌*◌, ◌/◌, ◌%◌, ◌^◌, ◌<◌, ◌≤◌, true, false, T, [], ◌∷◌, ℤ, pos, ◌+ℤ◌, ◌-ℤ◌, ◌*ℤ◌, sym, refl, ap, ◌∙◌, subst, ap₂, inl, inr, ⊎_elim, le_of_lt, arith, lit≤, pow_pos}
-use lib.Ieee.{Float, nan, inf, fin, binary32, binary64, mul, neg, fits, is_nan, of_bits, to_bits}
-use lib.Ieee.Fits.{mul-fits}
-use lib.Ieee.Scale.{finite}
-use borrow.Author.Differences.{ints}
+use Rattle.std.specs.Float.{Float, nan, inf, fin, binary32, binary64}
+use Rattle.std.specs.Float.Ieee.{mul, neg, fits, is_nan, of_bits, to_bits}
+use Rattle.std.specs.Float.Ieee.Fits.{mul-fits}
+use Rattle.std.specs.Float.Ieee.Scale.{finite}
+use Rattle.std.proofs.lemmas.Int.{ints}
 use std.Quotient.{cls}
 use Rattle.exact.specs.Fraction.{dyadic}
 use Rattle.exact.proofs.Ring.{con, ◌⊕◌, ◌⊖◌, ◌⊗◌, ⊝, norm}
 use Rattle.exact.proofs.Integer.{zring, x₀, x₁}
 use Rattle.exact.proofs.Rational.{ℚ, is, ◌+q◌, ◌*q◌, -q◌, ◌-q◌, ofℤ, qring}
 use Rattle.exact.proofs.Order.{nn, ◌≤q◌, q_refl, q_trans, q_neg}
-use Rattle.exact.proofs.Bound.{ofℕ, Bound, bound_more, bound_add, bound_mul, bound_self, bound_neg}
-use Rattle.exact.proofs.Compare.{fr, abs_in, diff_cls}
+use Rattle.exact.proofs.Bound.{ofℕ, Bound, bound_more, bound_add, bound_mul, bound_self, bound_neg, bound_is}
+use Rattle.exact.proofs.Compare.{fr, abs_in, diff_cls, dy}
 use Rattle.rounding.specs.Values.{value}
 use Rattle.rounding.specs.Ranges.{Ranged, Permitted}
-use Rattle.rounding.proofs.Fractions.{dy, nn_frac}
+use Rattle.rounding.proofs.Fractions.{nn_frac}
 use Rattle.rounding.proofs.Value.{val, val_value, mul_rounds}
 use Rattle.rounding.proofs.Error.{eps, tiny, round_err}
 use Rattle.rounding.proofs.Multiple.{Mult, Away, away_more, away_above, away_below, mult_away, mult_whole}
@@ -25,10 +26,12 @@ use Rattle.curves.specs.Steps.{pattern, magnitude, single}
 use Rattle.curves.specs.Exp.{kf, k, lo, shifted, row_of_whole, row_of_rest, ExpReaches}
 use Rattle.curves.proofs.Natural.{exp_splits_lem}
 use Rattle.accuracy.specs.Arguments.{Asked, AskedWhole, ExpArguments}
-use Rattle.accuracy.proofs.Law.{finite_in, ranged_within, ranged_fits, fma_law, fmaf_law, small_of, roundf_near}
+use Rattle.curves.proofs.Law.{finite_out, ranged_in, fma_law, small_in_range, near_whole}
+use Rattle.curves.proofs.Law as Law
+use Rattle.accuracy.proofs.Law.{fmaf_law, asked}
 use Rattle.accuracy.proofs.Inputs.{Signed, positive, negative, signed_of}
 use Rattle.accuracy.proofs.Rows.{whole_arg, part_arg}
-use Rattle.accuracy.proofs.ExpPolynomial.{c₀, c₁, c₂, c₃, c₄, in_range, lo_range, stages}
+use Rattle.accuracy.proofs.ExpPolynomial.{in_range, lo_range, stages}
 
 -- ---- an x that reaches the tables, by its size
 pub reaches_finite : (x : Float) → ExpReaches x → T (finite x)
@@ -82,7 +85,7 @@ reaches_size x w t = go (signed_of x w (reaches_finite x t))
 -- ---- 128 x, rounded to a whole number
 scale_numbers : T (finite (single 0x4300_0000)) × Bound (val (single 0x4300_0000)) (ofℕ 128) × (ofℕ 105 *q ofℕ 128 ≤q ofℕ (2 ^ 14)) × (ofℕ (2 ^ 14) +q (ofℕ (2 ^ 14) *q eps binary32 +q tiny binary32) ≤q ofℕ (2 ^ 15)) × (ofℕ (2 ^ 15) ≤q ofℕ (2 ^ 21)) × (ofℕ (2 ^ 15) +q dy 1 1 ≤q ofℕ (2 ^ 60)) × (ofℕ 105 ≤q ofℕ (2 ^ 60))
 unfolding nn ◌-q◌ ◌+q◌ -q◌ ◌*q◌ ofℕ ofℤ val of_bits
-scale_numbers = (tt, record { hi = record { le = tt }; lo = record { le = tt } }, record { le = tt }, record { le = tt }, record { le = tt }, record { le = tt }, record { le = tt })
+scale_numbers = (tt, bound_is tt tt, record { le = tt }, record { le = tt }, record { le = tt }, record { le = tt }, record { le = tt })
 
 scaled_size : (x : Float) → T (finite x) → Bound (val x) (ofℕ 105) → T (finite (mul binary32 x (single 0x4300_0000))) × Bound (val (mul binary32 x (single 0x4300_0000))) (ofℕ (2 ^ 15))
 unfolding norm ◌-q◌
@@ -129,12 +132,12 @@ split a w x fx t =
     let b = reaches_size x fx t in
     let m = scaled_size x f b.1 in
     let y = mul binary32 x (single 0x4300_0000) in
-    let z = roundf_near a w y (mul-fits binary32 x (single 0x4300_0000)) m.0 (bound_more m.1 scale_numbers.4) in
+    let z = near_whole y (Law.in_range binary32 y (kf a x) (mul-fits binary32 x (single 0x4300_0000)) m.0 (bound_more m.1 scale_numbers.4) (w.roundf_law y)) in
     let rx : Ranged binary32 60 x = ranged binary32 60 x fx f b.0 (bound_more b.1 scale_numbers.6) in
     let ks : Bound (val (kf a x)) (ofℕ (2 ^ 15) +q dy 1 1) = subst (λ (u : ℚ). Bound u (ofℕ (2 ^ 15) +q dy 1 1)) (qring (x₀ ⊕ ⊝ (x₀ ⊖ x₁)) x₁ refl (val y ∷ val (kf a x) ∷ [])) (bound_add m.1 (bound_neg z.off)) in
     let rk : Ranged binary32 60 (kf a x) = ranged binary32 60 (kf a x) z.is_fit z.is_finite (away_more {k = 0} 60 (lit≤ tt) (mult_away (subst (λ (u : ℚ). Mult 0 u) (sym z.value_of) (mult_whole z.num)))) (bound_more ks scale_numbers.5) in
     let p : Permitted binary32 (kf a x) (neg (single 0x3c00_0000)) x (lo a x) = fmaf_law a w (kf a x) (neg (single 0x3c00_0000)) x rk minus_part rx in
-    let fl = finite_in (lo a x) s.finite_lo in
+    let fl = finite_out (lo a x) s.finite_lo in
     let wl = permitted_fits binary32 (kf a x) (neg (single 0x3c00_0000)) x (lo a x) z.is_finite (ranged_finite binary32 60 (neg (single 0x3c00_0000)) minus_part) f p in
     let bl : Bound (val (lo a x)) (dy 1 8) = subst (λ (u : ℚ). Bound u (dy 1 8)) (sym (val_value (lo a x))) (abs_in (value (lo a x)) (dyadic (pos 1) 8) s.small) in
     let e : val (lo a x) ≡ val x -q fr (k a x) 128 (pow_pos 7) = val_value (lo a x) ∙ is s.exact ∙ diff_cls (value x) (dyadic (k a x) 7) ∙ ap (λ (u : ℚ). u -q fr (k a x) 128 (pow_pos 7)) (sym (val_value x)) in
@@ -147,18 +150,15 @@ split a w x fx t =
       small_lo = bl;
       range_lo = lo_range (lo a x) fl wl bl;
       sum = sym (ap₂ (λ (u v : ℚ). u +q v) q e ∙ qring (x₀ ⊕ (x₁ ⊖ x₀)) x₁ refl (fr (k a x) 128 (pow_pos 7) ∷ val x ∷ []));
-      asked_whole = record { fit = mul-fits binary32 x (single 0x4300_0000); below = small_of y m.0 (bound_more m.1 scale_numbers.4) };
+      asked_whole = record { fit = mul-fits binary32 x (single 0x4300_0000); below = small_in_range y m.0 (bound_more m.1 scale_numbers.4) };
       asked_part = record {
-        of_x = (z.is_fit, ranged_within binary32 59 (kf a x) rk);
-        of_y = (ranged_fits binary32 60 (neg (single 0x3c00_0000)) minus_part, ranged_within binary32 59 (neg (single 0x3c00_0000)) minus_part);
-        of_z = (fx, ranged_within binary32 59 x rx);
+        of_x = ranged_in binary32 59 (kf a x) rk;
+        of_y = ranged_in binary32 59 (neg (single 0x3c00_0000)) minus_part;
+        of_z = ranged_in binary32 59 x rx;
       };
     }
 
 -- ---- the arguments of the split and of the polynomial
-pub asked : (x y z : Float) → Ranged binary64 400 x → Ranged binary64 400 y → Ranged binary64 400 z → Asked binary64 400 x y z
-asked x y z p q r = record { of_x = (ranged_fits binary64 400 x p, ranged_within binary64 399 x p); of_y = (ranged_fits binary64 400 y q, ranged_within binary64 399 y q); of_z = (ranged_fits binary64 400 z r, ranged_within binary64 399 z r) }
-
 pub table_arguments : ExpArguments
 table_arguments a w x fx t =
     let s = split a w x fx t in
@@ -166,8 +166,8 @@ table_arguments a w x fx t =
     record {
       for_kf = s.asked_whole;
       for_lo = s.asked_part;
-      for_third = asked (lo a x) c₄ c₃ s.range_lo in_range.4 in_range.3;
-      for_second = asked (lo a x) _ c₂ s.range_lo g.third.range in_range.2;
-      for_first = asked (lo a x) _ c₁ s.range_lo g.second.range in_range.1;
-      for_poly = asked (lo a x) _ c₀ s.range_lo g.first.range in_range.0;
+      for_third = asked s.range_lo in_range.4 in_range.3;
+      for_second = asked s.range_lo g.third.range in_range.2;
+      for_first = asked s.range_lo g.second.range in_range.1;
+      for_poly = asked s.range_lo g.first.range in_range.0;
     }

@@ -1,7 +1,8 @@
 -- exp by its tables: the f64 before the narrowing is within 2 ^ -45 of the exact value, relative to itself.
 use Rattle.std.proofs.Common.{ℕ, ◌≤◌, T, pos, sym, subst, lit≤}
-use lib.Ieee.{Float, binary32, binary64, mul, fits}
-use lib.Ieee.Scale.{finite}
+use Rattle.std.specs.Float.{Float, binary32, binary64}
+use Rattle.std.specs.Float.Ieee.{mul, fits}
+use Rattle.std.specs.Float.Ieee.Scale.{finite}
 use Rattle.exact.specs.Exact.{exp}
 use Rattle.exact.proofs.Rational.{ℚ, ◌+q◌, ◌*q◌, -q◌, ◌-q◌, ofℤ}
 use Rattle.exact.proofs.Order.{nn, ◌≤q◌, q_trans, q_mul}
@@ -16,7 +17,7 @@ use Rattle.curves.specs.Steps.{row}
 use Rattle.curves.specs.Exp.{k, lo, row_of_whole, row_of_rest, exp_poly, exp_tables_value, ExpReaches}
 use Rattle.accuracy.specs.Figures.{Right, Agree}
 use Rattle.accuracy.specs.Inner.{exp_wide}
-use Rattle.accuracy.proofs.Law.{fma_law}
+use Rattle.curves.proofs.Law.{fma_law}
 use Rattle.accuracy.proofs.Rows.{part_factor}
 use Rattle.accuracy.proofs.ExpPolynomial.{stages, poly_near}
 use Rattle.accuracy.proofs.TableProduct.{Product, row_times_polynomial, mul_rel, halves, rel_back}

@@ -1,9 +1,9 @@
 -- expm1 whole: its bands in order, each with what is promised of its figure.
-use Rattle.std.proofs.Common.{◌≡◌, ℕ, ◌<◌, ◌≤◌, Bool, true, false, cond, not, ◌&&◌, T, ltb, leb, [], ◌∷◌, ℤ, sym, refl, ap, ◌∙◌, subst, ap₂, inl, inr, lt_of_lt_of_le, le_of_lt, arith, lit≤, eqb→eq, ltb→lt, leb→le, nltb→le}
-use lib.Dec.{nleb→lt}
-use lib.Ieee.{Float, nan, inf, fin, binary32, fits, is_nan, of_bits, to_bits}
-use lib.Ieee.Bits.{is_false}
-use lib.Ieee.Scale.{finite}
+use Rattle.std.proofs.Common.{◌≡◌, ℕ, ◌<◌, ◌≤◌, Bool, true, false, cond, not, T, ltb, leb, [], ◌∷◌, ℤ, sym, refl, ap, ◌∙◌, subst, inl, inr, lt_of_lt_of_le, le_of_lt, arith, lit≤, eqb→eq, ltb-true, ltb-false, leb-true, leb-false}
+use Rattle.std.specs.Float.{Float, fin, binary32}
+use Rattle.std.specs.Float.Ieee.{fits, is_nan, of_bits, to_bits}
+use Rattle.std.specs.Float.Ieee.Bits.{is_false}
+use Rattle.std.specs.Float.Ieee.Scale.{finite}
 use Rattle.exact.specs.Exact.{expm1}
 use Rattle.exact.proofs.Ring.{⊝, norm}
 use Rattle.exact.proofs.Integer.{x₀}
@@ -37,41 +37,22 @@ pub data Band (x : Float) : Type 0 where
   small : Expm1Reaches x → magnitude x < 0x3d80_0000 → ((a : Arithmetic) → expm1_value a x ≡ expm1_small_value a x) → Band x
   tables : Expm1Reaches x → 0x3d80_0000 ≤ magnitude x → ((a : Arithmetic) → expm1_value a x ≡ expm1_tables_value a x) → Band x
 
--- five tests in order
-abbrev choose : Arithmetic → Float → Bool → Bool → Bool → Bool → Bool → Float
-choose a x p q r s u = cond p (single 0x7fc0_0000) (cond q x (cond r (single 0xbf80_0000) (cond s (single 0x7f80_0000) (cond u (expm1_small_value a x) (expm1_tables_value a x)))))
-
-taken : (a : Arithmetic) (x : Float) (p q r s u : Bool) → is_nan x ≡ p → ltb (magnitude x) 0x3300_0000 ≡ q → leb 0xc18a_a123 (pattern x) ≡ r → ltb (pattern x) 0x8000_0000 && leb 0x42b2_0000 (pattern x) ≡ s → ltb (magnitude x) 0x3d80_0000 ≡ u → expm1_value a x ≡ choose a x p q r s u
-taken a x p q r s u e f g h i =
-    ap (λ (b : Bool). choose a x b (ltb (magnitude x) 0x3300_0000) (leb 0xc18a_a123 (pattern x)) (ltb (pattern x) 0x8000_0000 && leb 0x42b2_0000 (pattern x)) (ltb (magnitude x) 0x3d80_0000)) e
-    ∙ ap (λ (b : Bool). choose a x p b (leb 0xc18a_a123 (pattern x)) (ltb (pattern x) 0x8000_0000 && leb 0x42b2_0000 (pattern x)) (ltb (magnitude x) 0x3d80_0000)) f
-    ∙ ap (λ (b : Bool). choose a x p q b (ltb (pattern x) 0x8000_0000 && leb 0x42b2_0000 (pattern x)) (ltb (magnitude x) 0x3d80_0000)) g
-    ∙ ap (λ (b : Bool). choose a x p q r b (ltb (magnitude x) 0x3d80_0000)) h
-    ∙ ap (λ (b : Bool). choose a x p q r s b) i
-
 band : (x : Float) → T (not (is_nan x)) → Band x
 band x t = go (ltb (magnitude x) 0x3300_0000) (leb 0xc18a_a123 (pattern x)) (ltb (pattern x) 0x8000_0000) (leb 0x42b2_0000 (pattern x)) refl refl refl refl
   where
     n : is_nan x ≡ false
     n = is_false (is_nan x) t
 
-    after : {b c : Bool} → b ≡ c → T c → T b
-    after {b} {c} e t = subst T (sym e) t
-
-    after_not : {b c : Bool} → b ≡ c → T (not c) → T (not b)
-    after_not {b} {c} e t = subst (λ (d : Bool). T (not d)) (sym e) t
-
     computed : Expm1Reaches x → (u : Bool) → ltb (magnitude x) 0x3d80_0000 ≡ u → ((a : Arithmetic) → expm1_value a x ≡ cond u (expm1_small_value a x) (expm1_tables_value a x)) → Band x
-    computed r true i v = small r (ltb→lt (magnitude x) 0x3d80_0000 (after i tt)) v
-    computed r false i v = tables r (nltb→le (magnitude x) 0x3d80_0000 (after_not i tt)) v
+    computed r true i v = small r (ltb-true _ _ i) v
+    computed r false i v = tables r (ltb-false _ _ i) v
 
     go : (q r s u : Bool) → ltb (magnitude x) 0x3300_0000 ≡ q → leb 0xc18a_a123 (pattern x) ≡ r → ltb (pattern x) 0x8000_0000 ≡ s → leb 0x42b2_0000 (pattern x) ≡ u → Band x
-    go true r s u e f g h = self (ltb→lt (magnitude x) 0x3300_0000 (after e tt)) (λ a. taken a x false true r (s && u) _ n e f (ap₂ (λ (b c : Bool). b && c) g h) refl)
-    go false true s u e f g h = minus_one (leb→le 0xc18a_a123 (pattern x) (after f tt)) (λ a. taken a x false false true (s && u) _ n e f (ap₂ (λ (b c : Bool). b && c) g h) refl)
-    go false false true true e f g h = infinite (ltb→lt (pattern x) 0x8000_0000 (after g tt)) (leb→le 0x42b2_0000 (pattern x) (after h tt)) (λ a. taken a x false false false true _ n e f (ap₂ (λ (b c : Bool). b && c) g h) refl)
-    go false false true false e f g h = computed record { number = t; past_self = nltb→le (magnitude x) 0x3300_0000 (after_not e tt); limits = inl (nleb→lt 0x42b2_0000 (pattern x) (after_not h tt)) } (ltb (magnitude x) 0x3d80_0000) refl (λ a. taken a x false false false false _ n e f (ap₂ (λ (b c : Bool). b && c) g h) refl)
-    go false false false true e f g h = computed record { number = t; past_self = nltb→le (magnitude x) 0x3300_0000 (after_not e tt); limits = inr (nltb→le (pattern x) 0x8000_0000 (after_not g tt), nleb→lt 0xc18a_a123 (pattern x) (after_not f tt)) } (ltb (magnitude x) 0x3d80_0000) refl (λ a. taken a x false false false false _ n e f (ap₂ (λ (b c : Bool). b && c) g h) refl)
-    go false false false false e f g h = computed record { number = t; past_self = nltb→le (magnitude x) 0x3300_0000 (after_not e tt); limits = inr (nltb→le (pattern x) 0x8000_0000 (after_not g tt), nleb→lt 0xc18a_a123 (pattern x) (after_not f tt)) } (ltb (magnitude x) 0x3d80_0000) refl (λ a. taken a x false false false false _ n e f (ap₂ (λ (b c : Bool). b && c) g h) refl)
+    go true r s u e f g h = self (ltb-true _ _ e) (λ a. simp (n, e))
+    go false true s u e f g h = minus_one (leb-true _ _ f) (λ a. simp (n, e, f))
+    go false false true true e f g h = infinite (ltb-true _ _ g) (leb-true _ _ h) (λ a. simp (n, e, f, g, h))
+    go false false true false e f g h = computed record { number = t; past_self = ltb-false _ _ e; limits = inl (leb-false _ _ h) } _ refl (λ a. simp (n, e, f, g, h))
+    go false false false u e f g h = computed record { number = t; past_self = ltb-false _ _ e; limits = inr (ltb-false _ _ g, leb-false _ _ f) } _ refl (λ a. simp (n, e, f, g, h))
 
 -- what reaches the steps of expm1 reaches those of exp
 pub reaches : (x : Float) → Expm1Reaches x → ExpReaches x
@@ -137,12 +118,11 @@ expm1_agrees_lem a b w u x fx t = go (band x (numberless x t))
 
 at_itself : (a : Arithmetic) (s : Bool) (m : ℕ) (e : ℤ) → m ≡ 0 → expm1_value a (fin s m e) ≡ fin s m e
 unfolding is_nan
-at_itself a s m e z = ap (λ (q : ℕ). cond (ltb q 0x3300_0000) (fin s m e) (cond (leb 0xc18a_a123 (pattern (fin s m e))) (single 0xbf80_0000) (cond (ltb (pattern (fin s m e)) 0x8000_0000 && leb 0x42b2_0000 (pattern (fin s m e))) (single 0x7f80_0000) (cond (ltb (magnitude (fin s m e)) 0x3d80_0000) (expm1_small_value a (fin s m e)) (expm1_tables_value a (fin s m e)))))) (zero_pattern s m e z)
+at_itself a s m e z = simp (zero_pattern s m e z)
 
 pub of_zero : (a : Arithmetic) (x : Float) → T (is_zero x) → expm1_value a x ≡ x
-of_zero a nan t = absurd t
-of_zero a (inf s) t = absurd t
 of_zero a (fin s m e) t = at_itself a s m e (eqb→eq m 0 t)
+of_zero _ _ t = absurd t
 
 pub expm1_special : CurveSpecial expm1
 unfolding is_nan of_bits to_bits

@@ -1,7 +1,8 @@
 -- expm1 where nothing is computed: x itself near zero, the smallest values included, and -1 far below it.
 use Rattle.std.proofs.Common.{◌≡◌, ℕ, suc, ◌-◌, ◌^◌, ◌≤◌, T, [], ◌∷◌, pos, sym, refl, ap, ◌∙◌, subst, zero-lt-suc, lit≤}
-use lib.Ieee.{Float, binary32, fits, of_bits, size}
-use lib.Ieee.Scale.{finite}
+use Rattle.std.specs.Float.{Float, binary32}
+use Rattle.std.specs.Float.Ieee.{fits, of_bits, size}
+use Rattle.std.specs.Float.Ieee.Scale.{finite}
 use std.Quotient.{cls}
 use Rattle.exact.specs.Fraction.{Fraction, times}
 use Rattle.exact.specs.Exact.{expm1}

@@ -1,15 +1,16 @@
 -- expm1 near zero, for 2 ^ -25 ≤ |x| ≤ 1/16: x + x ^ 2 times a polynomial of seven terms is within 17 * 2 ^ -52 of the exact value, relative to its own size.
 use Rattle.std.proofs.Common.{◌≡◌, ℕ, ◌^◌, ◌≤◌, Bool, true, false, not, T, ◌⊎◌, [], ◌∷◌, pos, sym, refl, ap, ◌∙◌, subst, ap₂, inl, inr, lit≤}
-use lib.Ieee.{Float, binary32, binary64, mul, fits, of_bits}
-use lib.Ieee.Fits.{mul-fits}
-use lib.Ieee.Scale.{finite}
+use Rattle.std.specs.Float.{Float, binary32, binary64, round_to_format}
+use Rattle.std.specs.Float.Ieee.{mul, fits, of_bits}
+use Rattle.std.specs.Float.Ieee.Fits.{mul-fits}
+use Rattle.std.specs.Float.Ieee.Scale.{finite}
 use std.Quotient.{cls}
 use Rattle.exact.specs.Exact.{expm1}
 use Rattle.exact.proofs.Ring.{con, ◌⊕◌, ◌⊖◌, ◌⊗◌, ⊝, norm}
 use Rattle.exact.proofs.Integer.{x₀, x₁, x₂, x₃, x₄, x₅, x₆, x₇, x₈}
 use Rattle.exact.proofs.Rational.{ℚ, is, ◌+q◌, ◌*q◌, -q◌, ◌-q◌, ofℤ, qring}
 use Rattle.exact.proofs.Order.{nn, nn_add, nn_mul, nn_total, ◌≤q◌, le_by, q_refl, q_trans, q_add, q_neg, q_mul}
-use Rattle.exact.proofs.Bound.{ofℕ, inv, nn_inv, absq, bound_abs, nn_le, le_nn, Bound, bound_nn, bound_more, bound_add, bound_neg, bound_mul, bound_self, mul_right}
+use Rattle.exact.proofs.Bound.{ofℕ, inv, nn_inv, absq, bound_abs, nn_le, le_nn, Bound, bound_nn, bound_more, bound_add, bound_neg, bound_mul, bound_self, mul_right, bound_is}
 use Rattle.exact.proofs.Compare.{dy, nn_dy}
 use Rattle.exact.proofs.Relative.{Rel}
 use Rattle.exact.proofs.Series.{term, S, R, from, later, tail}
@@ -23,17 +24,16 @@ use Rattle.rounding.proofs.MultiplyAdd.{slip₂, fma_err}
 use Rattle.rounding.proofs.Horner.{Ball, ball_size}
 use Rattle.rounding.proofs.Range.{FmaLaw, ranged_above}
 use Rattle.rounding.proofs.Limit.{limitℕ}
-use Rattle.std.specs.Float.{round_to_format}
 use Rattle.arithmetic.specs.Arithmetic.{Arithmetic, Lawful}
 use Rattle.curves.specs.Steps.{double, poly7}
 use Rattle.curves.specs.Expm1.{expm1_small_value}
 use Rattle.accuracy.specs.Figures.{Right, Agree}
 use Rattle.accuracy.specs.Arguments.{SmallArguments}
-use Rattle.accuracy.proofs.Law.{fma_law}
+use Rattle.curves.proofs.Law.{fma_law}
 use Rattle.accuracy.proofs.Horner.{f32_range, Stage, Numbers, horner}
 use Rattle.accuracy.proofs.ExpPolynomial.{lift}
 use Rattle.accuracy.proofs.TableProduct.{mul_rel, halves}
-use Rattle.accuracy.proofs.ExpSplit.{asked}
+use Rattle.accuracy.proofs.Law.{asked}
 use Rattle.accuracy.proofs.ExpLimit.{last_under, expm1_under}
 use Rattle.accuracy.proofs.Outcome.{close, Near, nearer, Under, right_near, agree_near, plus_sign, minus_sign}
 
@@ -64,7 +64,7 @@ in_range = ((tt, inr (lit≤ tt, lit≤ tt)), (tt, inr (lit≤ tt, lit≤ tt)), 
 
 sizes : Bound (val a₀) (dy 1 1) × Bound (val a₁) (dy 1 2) × Bound (val a₂) (dy 1 4) × Bound (val a₃) (dy 1 6) × Bound (val a₄) (dy 1 9) × Bound (val a₅) (dy 1 12) × Bound (val a₆) (dy 1 15)
 unfolding nn ◌-q◌ ◌+q◌ -q◌ val of_bits
-sizes = (record { hi = record { le = tt }; lo = record { le = tt } }, record { hi = record { le = tt }; lo = record { le = tt } }, record { hi = record { le = tt }; lo = record { le = tt } }, record { hi = record { le = tt }; lo = record { le = tt } }, record { hi = record { le = tt }; lo = record { le = tt } }, record { hi = record { le = tt }; lo = record { le = tt } }, record { hi = record { le = tt }; lo = record { le = tt } })
+sizes = (bound_is tt tt, bound_is tt tt, bound_is tt tt, bound_is tt tt, bound_is tt tt, bound_is tt tt, bound_is tt tt)
 
 -- the error of each step, and |x|
 abbrev e : ℚ
@@ -75,7 +75,7 @@ X = dy 1 4
 
 start : Stage a₆ (val a₆) (dy 1 15) e
 unfolding nn ◌-q◌ ◌+q◌ -q◌ val of_bits
-start = record { ball = record { is_finite = tt; off = record { hi = record { le = tt }; lo = record { le = tt } }; size = sizes.6 }; range = in_range.6 }
+start = record { ball = record { is_finite = tt; off = bound_is tt tt; size = sizes.6 }; range = in_range.6 }
 
 fine : Numbers X (dy 1 1) e (dy 1 1) (dy 17 5) e a₀ × Numbers X (dy 1 3) e (dy 1 2) (dy 1 1) e a₁ × Numbers X (dy 1 5) e (dy 1 4) (dy 1 3) e a₂ × Numbers X (dy 1 8) e (dy 1 6) (dy 1 5) e a₃ × Numbers X (dy 1 11) e (dy 1 9) (dy 1 8) e a₄ × Numbers X (dy 1 15) e (dy 1 12) (dy 1 11) e a₅
 unfolding nn ◌-q◌ ◌+q◌ -q◌ ◌*q◌ ofℕ ofℤ val of_bits
@@ -137,7 +137,7 @@ exact_seven t = t *q (t *q (t *q (t *q (t *q (t *q b₆ +q b₅) +q b₄) +q b�
 -- how far each coefficient is from 1 / (k + 2)!
 coefficients : Bound (val a₀ -q b₀) (dy 1 80) × Bound (val a₁ -q b₁) (dy 41 51) × Bound (val a₂ -q b₂) (dy 38 53) × Bound (val a₃ -q b₃) (dy 41 40) × Bound (val a₄ -q b₄) (dy 43 45) × Bound (val a₅ -q b₅) (dy 41 31) × Bound (val a₆ -q b₆) (dy 34 35)
 unfolding nn ◌-q◌ ◌+q◌ -q◌ ◌*q◌ val of_bits inv
-coefficients = (record { hi = record { le = tt }; lo = record { le = tt } }, record { hi = record { le = tt }; lo = record { le = tt } }, record { hi = record { le = tt }; lo = record { le = tt } }, record { hi = record { le = tt }; lo = record { le = tt } }, record { hi = record { le = tt }; lo = record { le = tt } }, record { hi = record { le = tt }; lo = record { le = tt } }, record { hi = record { le = tt }; lo = record { le = tt } })
+coefficients = (bound_is tt tt, bound_is tt tt, bound_is tt tt, bound_is tt tt, bound_is tt tt, bound_is tt tt, bound_is tt tt)
 
 S_eight : (t : ℚ) → S t 8 ≡ ofℕ 1 +q t +q t *q t *q exact_seven t
 unfolding S term norm ofℕ
@@ -317,13 +317,13 @@ module _ (a : Arithmetic) (w : Lawful a) (x : Float) (c : Small x) where
 
   pub small_arguments : SmallArguments a x
   small_arguments = record {
-    for_5 = asked x a₆ a₅ range in_range.6 in_range.5;
-    for_4 = asked x _ a₄ range scheme.fifth.range in_range.4;
-    for_3 = asked x _ a₃ range scheme.fourth.range in_range.3;
-    for_2 = asked x _ a₂ range scheme.third.range in_range.2;
-    for_1 = asked x _ a₁ range scheme.second.range in_range.1;
-    for_0 = asked x _ a₀ range scheme.first.range in_range.0;
-    for_sum = asked s₀ sq x scheme.last.range sq_range range;
+    for_5 = asked range in_range.6 in_range.5;
+    for_4 = asked range scheme.fifth.range in_range.4;
+    for_3 = asked range scheme.fourth.range in_range.3;
+    for_2 = asked range scheme.third.range in_range.2;
+    for_1 = asked range scheme.second.range in_range.1;
+    for_0 = asked range scheme.first.range in_range.0;
+    for_sum = asked scheme.last.range sq_range range;
   }
 
   p_high : Bound (val s₀) (dy 35 6)

@@ -1,8 +1,9 @@
 -- expm1 by its tables: the f64 before the narrowing is within 125 * 2 ^ -48 of the exact value, relative to its own size.
 use Rattle.std.proofs.Common.{◌≡◌, ℕ, ◌^◌, ◌≤◌, T, ◌⊎◌, [], ◌∷◌, pos, sym, refl, ◌∙◌, subst, inl, inr, le_refl, zero-lt-suc, lit≤, pow_pos}
-use lib.Ieee.{Float, binary32, binary64, mul, neg, fits, of_bits}
-use lib.Ieee.Fits.{mul-fits}
-use lib.Ieee.Scale.{finite}
+use Rattle.std.specs.Float.{Float, binary32, binary64}
+use Rattle.std.specs.Float.Ieee.{mul, neg, fits, of_bits}
+use Rattle.std.specs.Float.Ieee.Fits.{mul-fits}
+use Rattle.std.specs.Float.Ieee.Scale.{finite}
 use std.Quotient.{cls}
 use Rattle.exact.specs.Exact.{expm1}
 use Rattle.exact.proofs.Ring.{con, ◌⊕◌, ◌⊖◌, ◌⊗◌, ⊝, norm}
@@ -31,10 +32,11 @@ use Rattle.curves.specs.Expm1.{expm1_tables_value}
 use Rattle.accuracy.specs.Figures.{Right, Agree}
 use Rattle.accuracy.specs.Inner.{expm1_wide}
 use Rattle.accuracy.specs.Arguments.{LastArguments}
-use Rattle.accuracy.proofs.Law.{fma_law}
+use Rattle.curves.proofs.Law.{fma_law}
+use Rattle.accuracy.proofs.Law.{asked}
 use Rattle.accuracy.proofs.Rows.{part_factor}
 use Rattle.accuracy.proofs.TableProduct.{Product}
-use Rattle.accuracy.proofs.ExpSplit.{split, reaches_size, asked}
+use Rattle.accuracy.proofs.ExpSplit.{split, reaches_size}
 use Rattle.accuracy.proofs.ExpTables.{exp_product}
 use Rattle.accuracy.proofs.ExpLimit.{last_under, Beside, sum_bottom, expm1_under, expm1_placed}
 use Rattle.accuracy.proofs.Outcome as Outcome
@@ -217,7 +219,7 @@ last_ranges a w x fx t =
     }
 
 pub last_arguments : (a : Arithmetic) → Lawful a → (x : Float) → T (fits binary32 x) → ExpReaches x → LastArguments a x
-last_arguments a w x fx t = let r = last_ranges a w x fx t in asked _ _ minus_one r.first r.second minus_range
+last_arguments a w x fx t = let r = last_ranges a w x fx t in asked r.first r.second minus_range
 
 -- what is known of it, with the inner statement, on either side of 0
 pub record Positive (a : Arithmetic) (x : Float) : Type 0 where

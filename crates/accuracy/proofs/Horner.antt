@@ -1,13 +1,14 @@
 -- Horner's scheme under the law of an arithmetic: each step stays in the law's range, and has its error.
 use Rattle.std.proofs.Common.{◌^◌, T, lit≤}
-use lib.Ieee.{Float, binary32, binary64, fits}
-use lib.Ieee.Fits.{fits_widens}
-use lib.Ieee.Scale.{finite}
+use Rattle.std.specs.Float.{Float, binary32, binary64}
+use Rattle.std.specs.Float.Ieee.{fits}
+use Rattle.std.specs.Float.Ieee.Fits.{fits_widens}
+use Rattle.std.specs.Float.Ieee.Scale.{finite}
 use Rattle.exact.proofs.Rational.{ℚ, ◌+q◌, ◌*q◌}
 use Rattle.exact.proofs.Order.{◌≤q◌}
 use Rattle.exact.proofs.Bound.{ofℕ, Bound, bound_more, bound_mul}
 use Rattle.rounding.specs.Ranges.{Ranged, Permitted}
-use Rattle.rounding.proofs.Fractions.{dy}
+use Rattle.exact.proofs.Compare.{dy}
 use Rattle.rounding.proofs.Value.{val}
 use Rattle.rounding.proofs.Scaled.{above}
 use Rattle.rounding.proofs.Horner.{Ball, ball_size, Step, step}

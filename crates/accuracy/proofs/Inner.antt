@@ -1,6 +1,6 @@
 -- What is said of the f64 before the narrowing, as a claim about the exact value.
 use Rattle.std.proofs.Common.{◌≡◌, sym, refl, ap, ◌∙◌, subst, inl, inr}
-use lib.Ieee.{Float}
+use Rattle.std.specs.Float.{Float}
 use std.Quotient.{cls}
 use Rattle.exact.specs.Fraction.{Fraction, times, absolute}
 use Rattle.exact.specs.Exponential.{within}

@@ -1,9 +1,9 @@
 -- An f32 by its pattern: its value, and the order of values by the order of patterns.
-use Rattle.std.proofs.Common.{◌≡◌, ℕ, ◌+◌, ◌-◌, ◌*◌, ◌/◌, ◌%◌, ◌^◌, ◌<◌, ◌≤◌, Bool, true, false, cond, not, T, eqb, leb, ◌⊎◌, ℤ, sym, refl, ap, ◌∙◌, subst, inl, inr, eq-zero-or-pos, arith, pow_pos}
-use lib.Bits.{bit_and}
-use lib.Ieee.{Float, nan, inf, fin, binary32, fits, is_nan, of_bits, of_fields, up, down, size}
-use lib.Ieee.Bits.{of_bits-to_bits, to_bits-lt}
-use lib.Ieee.Scale.{finite}
+use Rattle.std.proofs.Common.{◌≡◌, ℕ, ◌+◌, ◌-◌, ◌*◌, ◌/◌, ◌%◌, ◌^◌, ◌<◌, ◌≤◌, Bool, true, false, cond, not, T, eqb, leb, ℤ, sym, refl, ap, ◌∙◌, subst, inl, inr, eq-zero-or-pos, arith, pow_pos, bit_and}
+use Rattle.std.specs.Float.{Float, nan, inf, fin, binary32}
+use Rattle.std.specs.Float.Ieee.{fits, is_nan, of_bits, of_fields, up, size}
+use Rattle.std.specs.Float.Ieee.Bits.{of_bits-to_bits, to_bits-lt}
+use Rattle.std.specs.Float.Ieee.Scale.{finite}
 use Rattle.std.proofs.lemmas.Nat.{and_mask}
 use Rattle.exact.proofs.Rational.{ℚ, -q◌}
 use Rattle.exact.proofs.Order.{nn}
@@ -47,59 +47,42 @@ signed_of x w t =
     let l : p < 2 ^ 32 = to_bits-lt binary32 x w in
     let m : magnitude x ≡ p % 2 ^ 31 = and_mask p 31 in
     elim (eq-zero-or-pos (p / 2 ^ 31)) [
-      | inl z ↦ positive (low p z) (m ∙ same p (low p z)) (ap val (sym e) ∙ pattern_positive p h (low p z))
-      | inr g ↦ negative (high p g) (split p l (high p g) ∙ ap (λ (n : ℕ). 2 ^ 31 + n) (sym m)) (ap val (sym e) ∙ pattern_negative p h (high p g) ∙ ap (λ (n : ℕ). -q◌ (sized n)) (sym m))
+      | inl z ↦ positive (low p z) (m ∙ (omega (arith, low p z))) (ap val (sym e) ∙ pattern_positive p h (low p z))
+      | inr g ↦ negative (high p g) ((omega (arith, high p g)) ∙ ap (λ (n : ℕ). 2 ^ 31 + n) (sym m)) (ap val (sym e) ∙ pattern_negative p h (high p g) ∙ ap (λ (n : ℕ). -q◌ (sized n)) (sym m))
     ]
   where
     low : (p : ℕ) → p / 2 ^ 31 ≡ 0 → p < 2 ^ 31
     low p z = omega arith
 
-    same : (p : ℕ) → p < 2 ^ 31 → p % 2 ^ 31 ≡ p
-    same p h = omega arith
-
     high : (p : ℕ) → 0 < p / 2 ^ 31 → 2 ^ 31 ≤ p
     high p g = omega arith
-
-    split : (p : ℕ) → p < 2 ^ 32 → 2 ^ 31 ≤ p → p ≡ 2 ^ 31 + p % 2 ^ 31
-    split p l h = omega arith
 
 -- ---- a finite f32 is no NaN, and is of the size that its pattern says
 pub numberless : (x : Float) → T (finite x) → T (not (is_nan x))
 unfolding is_nan
-numberless nan t = absurd t
-numberless (inf s) t = absurd t
 numberless (fin s m e) t = tt
+numberless _ t = absurd t
 
-pub decide : (b : Bool) → T b ⊎ T (not b)
-decide true = inl tt
-decide false = inr tt
+nn_sized : (p : ℕ) → T (nn (sized p))
+nn_sized p = nn_frac (size_of p) (2 ^ 149) (pow_pos 149)
 
 pub sized_bound : (x : Float) → T (fits binary32 x) → T (finite x) → Bound (val x) (sized (magnitude x))
 sized_bound x w t = elim (signed_of x w t) [
-  | positive l m v ↦ subst (λ (u : ℚ). Bound u (sized (magnitude x))) (sym (v ∙ ap (λ (n : ℕ). sized n) (sym m))) (bound_self nn_size)
-  | negative l m v ↦ subst (λ (u : ℚ). Bound u (sized (magnitude x))) (sym v) (bound_neg (bound_self nn_size))
+  | positive l m v ↦ subst (λ (u : ℚ). Bound u (sized (magnitude x))) (sym (v ∙ ap (λ (n : ℕ). sized n) (sym m))) (bound_self (nn_sized (magnitude x)))
+  | negative l m v ↦ subst (λ (u : ℚ). Bound u (sized (magnitude x))) (sym v) (bound_neg (bound_self (nn_sized (magnitude x))))
 ]
-  where
-    nn_size : T (nn (sized (magnitude x)))
-    nn_size = nn_frac (size_of (magnitude x)) (2 ^ 149) (pow_pos 149)
 
 pub sized_size : (x : Float) → T (fits binary32 x) → T (finite x) → absq (val x) ≡ sized (magnitude x)
 sized_size x w t = elim (signed_of x w t) [
-  | positive l m v ↦ ap absq (v ∙ ap (λ (n : ℕ). sized n) (sym m)) ∙ abs_nn (sized (magnitude x)) nn_size
+  | positive l m v ↦ ap absq (v ∙ ap (λ (n : ℕ). sized n) (sym m)) ∙ abs_nn (sized (magnitude x)) (nn_sized (magnitude x))
   | negative l m v ↦ ap absq (v ∙ frac_neg (size_of (magnitude x)) (2 ^ 149) (pow_pos 149)) ∙ abs_frac true (size_of (magnitude x)) (2 ^ 149) (pow_pos 149)
 ]
-  where
-    nn_size : T (nn (sized (magnitude x)))
-    nn_size = nn_frac (size_of (magnitude x)) (2 ^ 149) (pow_pos 149)
 
 -- a zero of either sign
 pub zero_pattern : (s : Bool) (m : ℕ) (e : ℤ) → m ≡ 0 → magnitude (fin s m e) ≡ 0
 unfolding size
-zero_pattern s m e z = ap (λ (p : ℕ). bit_and p 0x7fff_ffff) (pattern_is s m e 0 (ap (λ (n : ℕ). n * up e * 2 ^ 149) z ∙ nil (up e) (down e))) ∙ go s
+zero_pattern s m e z = ap (λ (p : ℕ). bit_and p 0x7fff_ffff) (pattern_is s m e 0 (ap (λ (n : ℕ). n * up e * 2 ^ 149) z ∙ omega arith)) ∙ go s
   where
-    nil : (u d : ℕ) → 0 * u * 2 ^ 149 ≡ 0 * d
-    nil u d = omega arith
-
     go : (s : Bool) → bit_and (cond s 2147483648 0 + pattern_of 0) 0x7fff_ffff ≡ 0
     go false = refl
     go true = refl

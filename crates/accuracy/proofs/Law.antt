@@ -1,115 +1,23 @@
--- From the law of an arithmetic to what the proofs use: a multiply-add on its range, and a rounding to a whole number below 2 ^ 22.
-use Rattle.std.proofs.Common.{◌≡◌, ℕ, suc, ◌*◌, ◌^◌, ◌≤◌, T, [], ◌∷◌, ℤ, pos, sym, refl, ap, ◌∙◌, subst, ap₂, inl, inr, zero-lt-suc, arith}
-use lib.Ieee.{Float, Format, nan, inf, fin, binary32, binary64, up, down, fits}
-use lib.Ieee.Fits.{down_pos}
-use lib.Ieee.Scale.{finite}
-use std.Quotient.{cls}
-use Rattle.std.specs.Float as Std
-use Rattle.exact.specs.Fraction.{whole, integer, times, apart, ◌≼◌}
-use Rattle.exact.proofs.Ring.{con, ◌⊗◌, norm}
-use Rattle.exact.proofs.Integer.{x₀, x₁}
-use Rattle.exact.proofs.Rational.{ℚ, is, ◌*q◌, -q◌, ◌-q◌, ofℤ, qring}
-use Rattle.exact.proofs.Order.{nn, ◌≤q◌, q_mul}
-use Rattle.exact.proofs.Bound.{ofℕ, absq, bound_abs, Bound, bound_more}
-use Rattle.rounding.specs.Values.{value}
+-- From the law of an arithmetic to what the proofs use: the narrow multiply-add on its range, and what is asked for within the wide one.
+use Rattle.std.proofs.Common.{inl, inr}
+use Rattle.std.specs.Float.{Float, Format, binary32, binary64}
 use Rattle.rounding.specs.Ranges.{Ranged, Permitted, once, twice}
-use Rattle.rounding.proofs.Fractions.{dy, frac_le_out, size_under}
-use Rattle.rounding.proofs.Value.{val, val_value}
-use Rattle.rounding.proofs.Distance.{at_most_out, times_cls, whole_cls, apart_cls}
 use Rattle.rounding.proofs.Range.{FmaLaw}
-use Rattle.rounding.proofs.WholeNumber.{NearWhole}
-use Rattle.arithmetic.specs.Arithmetic.{Arithmetic, Lawful, MulAdd, OneOrTwo, RoundsAway, within, small}
-use Rattle.arithmetic.proofs.Digits.{within_zero, within_range, small_in}
+use Rattle.arithmetic.specs.Arithmetic.{Arithmetic, Lawful, OneOrTwo}
+use Rattle.curves.proofs.Law.{ranged_in}
+use Rattle.accuracy.specs.Arguments.{Asked}
 
--- ---- a float is finite in the one sense and in the other
-pub finite_in : (x : Float) → T (Std.float_is_finite x) → T (finite x)
-unfolding Std.float_is_finite
-finite_in nan h = h
-finite_in (inf s) h = h
-finite_in (fin s m e) h = tt
-
-pub finite_out : (x : Float) → T (finite x) → T (Std.float_is_finite x)
-unfolding Std.float_is_finite
-finite_out nan h = h
-finite_out (inf s) h = h
-finite_out (fin s m e) h = tt
-
--- ---- a multiply-add on its range
-pub ranged_within : (f : Format) (n : ℕ) (x : Float) → Ranged f (suc n) x → T (within (suc n) x)
-ranged_within f n nan r = absurd r
-ranged_within f n (inf s) r = absurd r
-ranged_within f n (fin s m e) r = elim r.1 [
-  | inl z ↦ within_zero (suc n) s m e (ap (λ (k : ℕ). k * up e) z ∙ nil (up e))
-  | inr l ↦ within_range n s m e l.0 l.1
-]
-  where
-    nil : (u : ℕ) → 0 * u ≡ 0
-    nil u = omega arith
-
-pub ranged_fits : (f : Format) (n : ℕ) (x : Float) → Ranged f n x → T (fits f x)
-ranged_fits f n nan r = absurd r
-ranged_fits f n (inf s) r = absurd r
-ranged_fits f n (fin s m e) r = r.0
-
-permitted : (f : Format) (x y z r : Float) → OneOrTwo f x y z r → Permitted f x y z r
-permitted f x y z r (inl e) = once e
-permitted f x y z r (inr e) = twice e
-
-multiply_add : (f : Format) (n : ℕ) (fma : Float → Float → Float → Float) → ((x y z : Float) → MulAdd f (suc n) x y z (fma x y z)) → FmaLaw f (suc n) fma
-multiply_add f n fma law x y z p q r =
-    permitted f x y z (fma x y z)
-    (law x y z (ranged_fits f (suc n) x p) (ranged_fits f (suc n) y q) (ranged_fits f (suc n) z r) (ranged_within f n x p) (ranged_within f n y q) (ranged_within f n z r))
-
-pub fma_law : (a : Arithmetic) → Lawful a → FmaLaw binary64 400 a.fma
-fma_law a w = multiply_add binary64 399 a.fma w.fma_law
+permitted : {f : Format} {x y z r : Float} → OneOrTwo f x y z r → Permitted f x y z r
+permitted (inl e) = once e
+permitted (inr e) = twice e
 
 pub fmaf_law : (a : Arithmetic) → Lawful a → FmaLaw binary32 60 a.fmaf
-fmaf_law a w = multiply_add binary32 59 a.fmaf w.fmaf_law
+fmaf_law a v x y z p q r =
+    let i = ranged_in binary32 59 x p in
+    let j = ranged_in binary32 59 y q in
+    let k = ranged_in binary32 59 z r in
+    permitted (v.fmaf_law x y z i.0 j.0 k.0 i.1 j.1 k.1)
 
--- ---- a rounding to a whole number
-pub small_of : (x : Float) → T (finite x) → Bound (val x) (ofℕ (2 ^ 21)) → T (small x)
-unfolding val ofℕ ofℤ
-small_of nan t b = absurd t
-small_of (inf s) t b = absurd t
-small_of (fin s m e) t b =
-    let u : m * up e * 1 ≤ 2 ^ 21 * down e = frac_le_out (m * up e) (down e) (2 ^ 21) 1 (down_pos e) (zero-lt-suc 0) (size_under s (m * up e) (down e) (down_pos e) _ b) in
-    let p = down_pos e in
-    small_in (fin s m e) s (m * up e) (down e) p (refl, refl) (omega arith)
-
-half_number : dy 1 1 *q ofℕ 2 ≡ ofℤ (pos 1)
-unfolding ◌*q◌ ofℕ ofℤ
-half_number = is refl
-
-nn_half : T (nn (dy 1 1))
-unfolding nn
-nn_half = tt
-
--- twice a distance of at most 1
-half_of : (a : ℚ) → ofℕ 2 *q a ≤q ofℕ 1 → a ≤q dy 1 1
-unfolding norm ofℕ
-half_of a h =
-    subst (λ (u : ℚ). u ≤q dy 1 1) (qring (x₀ ⊗ (con (pos 2) ⊗ x₁)) (x₀ ⊗ con (pos 2) ⊗ x₁) refl (dy 1 1 ∷ a ∷ []) ∙ ap (λ (u : ℚ). u *q a) half_number ∙ qring (con (pos 1) ⊗ x₀) x₀ refl (a ∷ []))
-    (subst (λ (u : ℚ). dy 1 1 *q (ofℕ 2 *q a) ≤q u) (qring (x₀ ⊗ con (pos 1)) x₀ refl (dy 1 1 ∷ [])) (q_mul (dy 1 1) nn_half h))
-
-near_of : (f : Format) (x r : Float) → RoundsAway f x r → NearWhole f x r
-near_of f x r w =
-    let e : val r ≡ ofℤ w.z = val_value r ∙ is w.is ∙ whole_is w.z in
-    record {
-      num = w.z;
-      is_finite = finite_in r w.number;
-      is_fit = w.fit;
-      value_of = e;
-      off = subst (λ (u : ℚ). Bound (val x -q u) (dy 1 1)) (sym e) (subst (λ (u : ℚ). Bound (u -q ofℤ w.z) (dy 1 1)) (sym (val_value x)) (bound_more (bound_abs (cls (value x) -q ofℤ w.z)) (half_of _ (far w.z w.nearest.near))));
-    }
-  where
-    whole_is : (z : ℤ) → cls (integer z) ≡ ofℤ z
-    whole_is z = unfold ofℤ in refl
-
-    far : (z : ℤ) → times (whole 2) (apart (value x) (integer z)) ≼ whole 1 → ofℕ 2 *q absq (cls (value x) -q ofℤ z) ≤q ofℕ 1
-    far z h = subst (λ (u : ℚ). u ≤q ofℕ 1) (times_cls (whole 2) (apart (value x) (integer z)) ∙ ap₂ (λ (u v : ℚ). u *q v) (whole_cls 2) (apart_cls (value x) (integer z) ∙ ap (λ (u : ℚ). absq (cls (value x) -q u)) (whole_is z))) (subst (λ (u : ℚ). cls (times (whole 2) (apart (value x) (integer z))) ≤q u) (whole_cls 1) (at_most_out (times (whole 2) (apart (value x) (integer z))) (whole 1) h))
-
-pub round_near : (a : Arithmetic) → Lawful a → (x : Float) → T (fits binary64 x) → T (finite x) → Bound (val x) (ofℕ (2 ^ 21)) → NearWhole binary64 x (a.round x)
-round_near a w x f t b = near_of binary64 x (a.round x) (w.round_law x f (small_of x t b))
-
-pub roundf_near : (a : Arithmetic) → Lawful a → (x : Float) → T (fits binary32 x) → T (finite x) → Bound (val x) (ofℕ (2 ^ 21)) → NearWhole binary32 x (a.roundf x)
-roundf_near a w x f t b = near_of binary32 x (a.roundf x) (w.roundf_law x f (small_of x t b))
+-- a multiply-add of numbers in the range of the law is asked for within it
+pub asked : {x y z : Float} → Ranged binary64 400 x → Ranged binary64 400 y → Ranged binary64 400 z → Asked binary64 400 x y z
+asked {x} {y} {z} a b c = record { of_x = ranged_in binary64 399 x a; of_y = ranged_in binary64 399 y b; of_z = ranged_in binary64 399 z c }

@@ -26,7 +26,6 @@ pub mod NearZero
 pub mod BinaryPolynomial
 pub mod DecimalPolynomial
 pub mod PowerBands
-pub mod Tests
 pub mod Binary
 pub mod Neighbours
 pub mod NearOne

@@ -1,6 +1,7 @@
 -- What is proved of a figure, by the name of its function.
 use Rattle.std.proofs.Common.{◌≡◌, T, sym, subst}
-use lib.Ieee.{Float, binary32, fits}
+use Rattle.std.specs.Float.{Float, binary32}
+use Rattle.std.specs.Float.Ieee.{fits}
 use Rattle.std.specs.Float.Ieee.Scale.{finite}
 use Rattle.arithmetic.specs.Arithmetic.{Arithmetic, Lawful}
 use Rattle.accuracy.specs.declared.function.Function.{Function}

@@ -1,8 +1,10 @@
 -- exp10 near one, up to 2 ^ -26: the f32 nearest to 10 ^ x is the one below 1 from 0xb25e5bd9 on, and 1 elsewhere.
-use Rattle.std.proofs.Common.{◌≡◌, ℕ, ◌+◌, ◌-◌, ◌^◌, ◌≤◌, Bool, true, false, not, ◌&&◌, T, ltb, leb, [], ◌∷◌, pos, negsuc, sym, refl, ap, ◌∙◌, subst, ap₂, inl, inr, arith, lit≤}
-use lib.Ieee.{Float, fin, binary32, fits, is_nan, of_bits, size}
-use lib.Ieee.Bits.{is_false}
-use lib.Ieee.Scale.{finite}
+use Rattle.std.proofs.Common.{◌≡◌, ℕ, ◌+◌, ◌-◌, ◌^◌, ◌≤◌, Bool, true, false, not, T, [], ◌∷◌, pos, negsuc, sym, refl, ap, ◌∙◌, subst, ap₂, inl, inr, arith, lit≤, lt-ltb, le-leb, le-ltb}
+use Rattle.std.specs.Float.{Float, fin, binary32}
+use Rattle.std.specs.Float.Ieee.{fits, is_nan, of_bits, size}
+use Rattle.std.specs.Float.Ieee.Bits.{is_false}
+use Rattle.std.specs.Float.Ieee.Scale.{finite}
+use Rattle.std.proofs.lemmas.Bool.{cases_lt, lt-leb}
 use std.Quotient.{cls}
 use Rattle.exact.specs.Fraction.{Fraction, times}
 use Rattle.exact.specs.Exponential.{at_least, at_most}
@@ -20,14 +22,13 @@ use Rattle.rounding.specs.Values.{value}
 use Rattle.rounding.specs.Units.{unit}
 use Rattle.rounding.specs.Nearest.{Held}
 use Rattle.rounding.specs.Errors.{middle}
-use Rattle.rounding.proofs.Fractions.{dy}
+use Rattle.exact.proofs.Compare.{dy}
 use Rattle.rounding.proofs.Value.{val, val_value}
 use Rattle.rounding.proofs.Narrow.{unit_of}
 use Rattle.rounding.proofs.Gaps.{Value}
 use Rattle.rounding.proofs.Patterns.{sized}
 use Rattle.rounding.proofs.TwoFigures.{middle_is}
 use Rattle.arithmetic.specs.Arithmetic.{Arithmetic}
-use Rattle.arithmetic.specs.Signs.{order}
 use Rattle.curves.specs.Steps.{pattern, magnitude, single}
 use Rattle.curves.specs.Exp10.{exp10_near_one, exp10_value}
 use Rattle.accuracy.specs.Figures.{half_and_part, Right, NearestTo}
@@ -38,7 +39,6 @@ use Rattle.accuracy.proofs.Outcome.{sum, right_finite}
 use Rattle.accuracy.proofs.PowerBands.{small_argument, one_right}
 use Rattle.accuracy.proofs.PowerInputs.{size_up_to, down_from, down_to}
 use Rattle.accuracy.proofs.PowerLimits.{last, under, low_above, low_below}
-use Rattle.accuracy.proofs.Tests.{not_less, up_to_is, not_up_to, both_hold, left_fails, right_fails, taken, left}
 
 -- ---- the sums to the second term
 second : (t : ℚ) → S t 2 ≡ ofℕ 1 +q t +q t *q t *q inv 1
@@ -199,11 +199,10 @@ module _ (x : Float) (w : T (fits binary32 x)) (f : T (finite x)) (m : magnitude
   -- ---- which of the two it is
   pub near_one_at : (a : Arithmetic) → exp10_value a x ≡ exp10_near_one x
   near_one_at a =
-      let e₀ = is_false (is_nan x) (numberless x f) in
-      let e₃ = up_to_is (magnitude x) 0x3280_0000 m in
+      let n = is_false (is_nan x) (numberless x f) in
       elim (signed_of x w f) [
-        | positive l q v ↦ left (is_nan x) _ _ e₀ ∙ left (ltb (pattern x) 0x8000_0000 && leb 0x421a_209b (pattern x)) _ _ (right_fails (ltb (pattern x) 0x8000_0000) (leb 0x421a_209b (pattern x)) (not_up_to 0x421a_209b (pattern x) (omega (arith, q, m)))) ∙ left (leb 0xc234_9e36 (pattern x)) _ _ (not_up_to 0xc234_9e36 (pattern x) (omega (arith, l))) ∙ taken (leb (magnitude x) 0x3280_0000) _ _ e₃
-        | negative l q v ↦ left (is_nan x) _ _ e₀ ∙ left (ltb (pattern x) 0x8000_0000 && leb 0x421a_209b (pattern x)) _ _ (left_fails (ltb (pattern x) 0x8000_0000) (leb 0x421a_209b (pattern x)) (not_less (pattern x) 0x8000_0000 (omega (arith, l)))) ∙ left (leb 0xc234_9e36 (pattern x)) _ _ (not_up_to 0xc234_9e36 (pattern x) (omega (arith, q, m))) ∙ taken (leb (magnitude x) 0x3280_0000) _ _ e₃
+        | positive l q v ↦ simp (n, lt-ltb (pattern x) 0x8000_0000 l, lt-leb 0x421a_209b (pattern x) (omega (arith, q, m)), lt-leb 0xc234_9e36 (pattern x) (omega (arith, l)), le-leb (magnitude x) 0x3280_0000 m)
+        | negative l q v ↦ simp (n, le-ltb (pattern x) 0x8000_0000 (omega (arith, l)), lt-leb 0xc234_9e36 (pattern x) (omega (arith, q, m)), le-leb (magnitude x) 0x3280_0000 m)
       ]
 
   -- the pattern goes no further than 0xb2800000
@@ -218,9 +217,9 @@ module _ (x : Float) (w : T (fits binary32 x)) (f : T (finite x)) (m : magnitude
     falls_below : val x ≤q -q◌ (dy 0xde5bd9 50) → exp10_near_one x ≡ fin false 0xffffff (negsuc 23) → Choice
 
   pub choice : Choice
-  choice = elim (order (pattern x) 0xb25e_5bd9) [
-    | inl l ↦ stays_one (q_trans pattern_nums.2 (down_to x w f 0x325e_5bd8 (λ s. omega arith))) (left (leb 0xb25e_5bd9 (pattern x) && leb (pattern x) 0xb280_0000) _ _ (left_fails (leb 0xb25e_5bd9 (pattern x)) (leb (pattern x) 0xb280_0000) (not_up_to 0xb25e_5bd9 (pattern x) l)) ∙ singles.0)
-    | inr l ↦ falls_below (q_trans (down_from x w f 0x325e_5bd9 (omega arith)) pattern_nums.3) (taken (leb 0xb25e_5bd9 (pattern x) && leb (pattern x) 0xb280_0000) _ _ (both_hold (leb 0xb25e_5bd9 (pattern x)) (leb (pattern x) 0xb280_0000) (up_to_is 0xb25e_5bd9 (pattern x) l) (up_to_is (pattern x) 0xb280_0000 no_further)) ∙ singles.1)
+  choice = elim (cases_lt (pattern x) 0xb25e_5bd9) [
+    | inl l ↦ stays_one (q_trans pattern_nums.2 (down_to x w f 0x325e_5bd8 (λ s. omega arith))) (simp (lt-leb 0xb25e_5bd9 (pattern x) l) singles.0)
+    | inr l ↦ falls_below (q_trans (down_from x w f 0x325e_5bd9 (omega arith)) pattern_nums.3) (simp (le-leb 0xb25e_5bd9 (pattern x) l, le-leb (pattern x) 0xb280_0000 no_further) singles.1)
   ]
 
   pub nearest_at : NearestTo exp10 x (exp10_near_one x)

@@ -1,16 +1,17 @@
 -- Near zero exp2 and exp10 are 1 + x p(x): the last step and the way to the exact value, once for both; and p by its steps for each.
 use Rattle.std.proofs.Common.{ℕ, ◌^◌, ◌≤◌, T, [], ◌∷◌, sym, refl, ap, ◌∙◌, subst, le_trans, lit≤}
-use lib.Ieee.{Float, binary32, binary64, mul, of_bits, fits}
-use lib.Ieee.Fits.{mul-fits}
-use lib.Ieee.Scale.{finite}
+use Rattle.std.specs.Float.{Float, binary32, binary64}
+use Rattle.std.specs.Float.Ieee.{mul, of_bits, fits}
+use Rattle.std.specs.Float.Ieee.Fits.{mul-fits}
+use Rattle.std.specs.Float.Ieee.Scale.{finite}
 use Rattle.exact.specs.Logarithm.{Base}
 use Rattle.exact.specs.Laws.{of_base}
 use Rattle.exact.proofs.Ring.{◌⊕◌, ◌⊖◌, ◌⊗◌, ⊝, norm}
 use Rattle.exact.proofs.Integer.{x₀, x₁, x₂, x₃, x₄, x₅}
 use Rattle.exact.proofs.Rational.{ℚ, ◌+q◌, ◌*q◌, -q◌, ◌-q◌, ofℤ, qring}
 use Rattle.exact.proofs.Order.{nn, ◌≤q◌, q_trans, q_add, q_mul}
-use Rattle.exact.proofs.Bound.{ofℕ, inv, ofℕ_mono, nn_le, le_nn, Bound, bound_more, bound_add, bound_mul, bound_neg, bound_turn, mul_right}
-use Rattle.exact.proofs.Compare.{nn_dy}
+use Rattle.exact.proofs.Bound.{ofℕ, inv, ofℕ_mono, nn_le, le_nn, Bound, bound_more, bound_add, bound_mul, bound_neg, bound_turn, mul_right, bound_is}
+use Rattle.exact.proofs.Compare.{nn_dy, dy}
 use Rattle.exact.proofs.Relative.{Rel}
 use Rattle.exact.proofs.Series.{S, from}
 use Rattle.exact.proofs.Shift.{shifted}
@@ -19,7 +20,6 @@ use Rattle.exact.proofs.Powers.{rest_small}
 use Rattle.exact.proofs.Table.{root_bound}
 use Rattle.rounding.specs.Values.{value}
 use Rattle.rounding.specs.Ranges.{Ranged}
-use Rattle.rounding.proofs.Fractions.{dy}
 use Rattle.rounding.proofs.Value.{val, val_value, mul_rounds}
 use Rattle.rounding.proofs.Error.{eps, tiny, round_err}
 use Rattle.rounding.proofs.MultiplyAdd.{slip, slip₂, fma_err}
@@ -42,7 +42,7 @@ wide = record { le = tt }
 last_nums : ((dy 3 0 +q dy 1 50) *q dy 1 5 ≤q ofℕ (2 ^ 100)) × ((dy 3 0 +q dy 1 50) *q dy 1 5 +q dy 1 0 +q slip binary64 ((dy 3 0 +q dy 1 50) *q dy 1 5) ≤q ofℕ (2 ^ 100))
     × (slip₂ binary64 ((dy 3 0 +q dy 1 50) *q dy 1 5) ((dy 3 0 +q dy 1 50) *q dy 1 5 +q dy 1 0) +q dy 1 50 *q dy 1 5 ≤q dy 1 51) × Bound (val unit) (dy 1 0) × (dy 28 5 +q (dy 3 0 *q dy 1 5 +q dy 1 51) ≤q val unit)
 unfolding nn ◌-q◌ ◌+q◌ -q◌ ◌*q◌ ofℕ ofℤ val of_bits
-last_nums = (record { le = tt }, record { le = tt }, record { le = tt }, record { hi = record { le = tt }; lo = record { le = tt } }, record { le = tt })
+last_nums = (record { le = tt }, record { le = tt }, record { le = tt }, bound_is tt tt, record { le = tt })
 
 module _ (fma : Float → Float → Float → Float) (law : FmaLaw binary64 400 fma) (x p : Float) (P : ℚ) (fx : T (finite x)) (wx : T (fits binary32 x)) (bx : Bound (val x) (dy 1 5)) (sp : Stage p P (dy 3 0) (dy 1 50)) where
   abbrev z : Float

@@ -1,6 +1,7 @@
 -- The f32 next to a given one: every other above it is at least a unit higher, and every other below it at least as low as the one before it.
 use Rattle.std.proofs.Common.{◌≡◌, ℕ, ◌+◌, ◌*◌, ◌^◌, ◌≤◌, Bool, true, false, sym, refl, subst, inl, inr, le_of_lt, mul-le-mul_right, pow_pos}
-use lib.Ieee.{Float, binary32}
+use Rattle.std.specs.Float.{Float, binary32}
+use Rattle.std.proofs.lemmas.Bool.{cases_lt}
 use std.Quotient.{cls}
 use Rattle.exact.proofs.Rational.{ℚ}
 use Rattle.exact.proofs.Order.{◌≤q◌}
@@ -12,7 +13,6 @@ use Rattle.rounding.proofs.Narrow.{unit_of}
 use Rattle.rounding.proofs.Held.{digits}
 use Rattle.rounding.proofs.Distance.{at_most_in}
 use Rattle.rounding.proofs.Gaps.{Value, next_value}
-use Rattle.arithmetic.specs.Signs.{order}
 
 -- g smallest values of f32
 abbrev pub grains : Bool → ℕ → ℚ
@@ -38,7 +38,7 @@ module _ (w : Float) (held : Held binary32 w) where
     where
       go : (s : Bool) (g : ℕ) → val w ≡ grains s g → Value binary32 g → grains false (Y + unit_of binary32 Y) ≤q val w
       go true g n v = absurd (not_below y w h (subst (λ (u : ℚ). u ≤q val y) (sym n) (subst (λ (u : ℚ). grains true g ≤q u) (sym e) (not_above g (2 ^ 149) (pow_pos 149) (grains false Y) (nn_frac Y (2 ^ 149) (pow_pos 149))))))
-      go false g n v = elim (order Y g) [
+      go false g n v = elim (cases_lt Y g) [
         | inl l ↦ subst (λ (u : ℚ). grains false (Y + unit_of binary32 Y) ≤q u) (sym n) (grains_mono (Y + unit_of binary32 Y) g (next_value binary32 Y g vY v l))
         | inr l ↦ absurd (not_below y w h (subst (λ (u : ℚ). u ≤q val y) (sym n) (subst (λ (u : ℚ). grains false g ≤q u) (sym e) (grains_mono g Y l))))
       ]
@@ -49,7 +49,7 @@ module _ (w : Float) (held : Held binary32 w) where
     where
       go : (s : Bool) (g : ℕ) → val w ≡ grains s g → Value binary32 g → val w ≤q grains false P
       go true g n v = subst (λ (u : ℚ). u ≤q grains false P) (sym n) (not_above g (2 ^ 149) (pow_pos 149) (grains false P) (nn_frac P (2 ^ 149) (pow_pos 149)))
-      go false g n v = elim (order P g) [
+      go false g n v = elim (cases_lt P g) [
         | inl l ↦ absurd (not_below w y h (subst (λ (u : ℚ). u ≤q val w) (sym e) (subst (λ (u : ℚ). grains false (P + unit_of binary32 P) ≤q u) (sym n) (grains_mono (P + unit_of binary32 P) g (next_value binary32 P g vP v l)))))
         | inr l ↦ subst (λ (u : ℚ). u ≤q grains false P) (sym n) (grains_mono g P l)
       ]

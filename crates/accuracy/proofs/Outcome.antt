@@ -1,11 +1,11 @@
 -- From the f64 z that is narrowed to what is promised of the figure: z within 2 ^ -38 of its own size of the exact value makes the figure right, and any two such figures agree.
 use Rattle.std.proofs.Common.{◌≡◌, ℕ, ◌+◌, ◌-◌, ◌*◌, ◌^◌, ◌≤◌, Bool, true, false, not, T, [], ◌∷◌, pos, sym, refl, ap, ◌∙◌, subst, zero-lt-suc, arith, eqb→eq, pow_pos}
-use lib.Ieee.{Float, nan, inf, fin, binary32, up, down, fits}
-use lib.Ieee.Exact.{HasValue}
-use lib.Ieee.Fits.{round-fits}
-use lib.Ieee.Scale.{finite}
+use Rattle.std.specs.Float.{Float, inf, fin, binary32, round_to_format}
+use Rattle.std.specs.Float.Ieee.{up, down, fits}
+use Rattle.std.specs.Float.Ieee.Exact.{HasValue}
+use Rattle.std.specs.Float.Ieee.Fits.{round-fits}
+use Rattle.std.specs.Float.Ieee.Scale.{finite}
 use std.Quotient.{cls}
-use Rattle.std.specs.Float.{round_to_format}
 use Rattle.exact.specs.Fraction.{Fraction, whole, times}
 use Rattle.exact.specs.Exponential.{within, at_least, at_most}
 use Rattle.exact.specs.Exact.{Function, AtLeast, AtMost}
@@ -13,8 +13,8 @@ use Rattle.exact.proofs.Ring.{◌⊕◌, ◌⊗◌, ⊝, norm}
 use Rattle.exact.proofs.Integer.{x₀, x₁, x₂}
 use Rattle.exact.proofs.Rational.{ℚ, is, ◌+q◌, ◌*q◌, -q◌, ◌-q◌, ofℤ, qring}
 use Rattle.exact.proofs.Order.{nn, ◌≤q◌, q_refl, q_trans, q_add, q_neg}
-use Rattle.exact.proofs.Bound.{ofℕ, absq, bound_abs, nn_le, le_nn, Bound, bound_nn, bound_more, bound_turn}
-use Rattle.exact.proofs.Compare.{product_cls, whole_cls, nn_dy}
+use Rattle.exact.proofs.Bound.{ofℕ, absq, bound_abs, nn_le, le_nn, Bound, bound_nn, bound_more, bound_turn, mul_right}
+use Rattle.exact.proofs.Compare.{product_cls, whole_cls, nn_dy, dy}
 use Rattle.exact.proofs.Claims as Claims
 use Rattle.exact.proofs.Claims.{holds}
 use Rattle.exact.proofs.Laws.{ordered}
@@ -22,8 +22,7 @@ use Rattle.rounding.specs.Values.{value, sign, is_zero}
 use Rattle.rounding.specs.Units.{unit}
 use Rattle.rounding.specs.Nearest.{limit}
 use Rattle.rounding.specs.Errors.{half, middle, nearer_zero}
-use Rattle.rounding.proofs.Fractions.{dy, frac_le_out}
-use Rattle.rounding.proofs.Relative.{mul_right}
+use Rattle.rounding.proofs.Fractions.{frac_le_out}
 use Rattle.rounding.proofs.Value.{val, val_value}
 use Rattle.rounding.proofs.Limit.{limitℕ, above_limit_relative, below_limit_relative}
 use Rattle.rounding.proofs.Distance.{abs_nn, at_most_out}
@@ -88,22 +87,16 @@ too_large h = h.le
 own_size : {f : Function} {x : Fraction} {e : ℚ} (z : Float) → T (nn (val z)) → (w : Near f x e z) (j n : ℕ) → w.start j ≤ n → Bound (val z -q sum f x j n) (e *q val z)
 own_size {f} {x} {e} z p w j n l = subst (λ (u : ℚ). Bound (val z -q sum f x j n) (e *q u)) (abs_nn (val z) p) (w.off j n l)
 
-left_le : (a b : ℕ) → a ≤ a + b
-left_le a b = omega arith
-
-right_le : (a b : ℕ) → b ≤ a + b
-right_le a b = omega arith
-
 -- a z of at least 0 then stays below the limit, or reaches it
 pub below_limit : (f : Function) (x : Fraction) (z : Float) → T (nn (val z)) → Near f x close z → Under f x → ofℕ (limitℕ binary32) ≤q absq (val z) → ⊥
 below_limit f x z p w u h =
     let n = w.start 0 + u.start 0 in
-    too_large (q_trans (below_limit_relative close nums.0 (own_size z p w 0 n (left_le (w.start 0) (u.start 0))) (subst (λ (y : ℚ). ofℕ (limitℕ binary32) ≤q y) (abs_nn (val z) p) h)) (u.below 0 n (right_le (w.start 0) (u.start 0))))
+    too_large (q_trans (below_limit_relative close nums.0 (own_size z p w 0 n (omega arith)) (subst (λ (y : ℚ). ofℕ (limitℕ binary32) ≤q y) (abs_nn (val z) p) h)) (u.below 0 n (omega arith)))
 
 pub reaches_limit : (f : Function) (x : Fraction) (z : Float) → T (nn (val z)) → Near f x close z → Over f x → ofℕ (limitℕ binary32) ≤q val z
 reaches_limit f x z p w u =
     let n = w.start 0 + u.start 0 in
-    above_limit_relative close nums.1 (own_size z p w 0 n (left_le (w.start 0) (u.start 0))) (q_trans nums.2 (u.above 0 n (right_le (w.start 0) (u.start 0))))
+    above_limit_relative close nums.1 (own_size z p w 0 n (omega arith)) (q_trans nums.2 (u.above 0 n (omega arith)))
 
 -- ---- right
 part_is : (u : Fraction) → cls (half u) +q dy 1 12 *q cls u ≡ cls (times half_and_part u)
@@ -147,17 +140,12 @@ small = record { nn_k = tt; half_k = record { le = tt }; little = record { le = 
 
 nearest_fits : (z : Float) → T (finite z) → T (fits binary32 (round_to_format binary32 z))
 unfolding round_to_format
-nearest_fits nan t = absurd t
-nearest_fits (inf s) t = absurd t
 nearest_fits (fin s m e) t = round-fits binary32 s (m * up e) (down e)
+nearest_fits _ t = absurd t
 
 zero_has : (y : Float) (s : Bool) → T (is_zero y) → sign y ≡ s → HasValue y s 0 (2 ^ 149)
-zero_has nan s t e = absurd t
-zero_has (inf u) s t e = absurd t
-zero_has (fin u m d) s t e = (e, ap (λ (k : ℕ). k * up d * 2 ^ 149) (eqb→eq m 0 t) ∙ nil (up d) (down d))
-  where
-    nil : (u d : ℕ) → 0 * u * 2 ^ 149 ≡ 0 * d
-    nil u d = omega arith
+zero_has (fin u m d) s t e = (e, ap (λ (k : ℕ). k * up d * 2 ^ 149) (eqb→eq m 0 t) ∙ omega arith)
+zero_has _ _ t _ = absurd t
 
 part_units : (u : Fraction) → dy 1 12 *q cls u ≡ cls (times small_part u)
 part_units u = ap (λ (y : ℚ). y *q cls u) twelve ∙ sym (product_cls small_part u)
@@ -173,7 +161,7 @@ agree_near f x z w a b low low' e =
     let fw = b.is_finite in
     let n = a.start 0 + b.start 0 in
     go (Agreement.agree binary32 z w close (dy 1 12) small fz fw (figure_finite binary32 z fz low) (figure_finite binary32 w fw low') (sum f (value x) 0 n)
-    (a.off 0 n (left_le (a.start 0) (b.start 0))) (b.off 0 n (right_le (a.start 0) (b.start 0))))
+    (a.off 0 n (omega arith)) (b.off 0 n (omega arith)))
   where
     go : Agreement.Agreeing binary32 (val z) (val w) close (dy 1 12) (round_to_format binary32 z) (round_to_format binary32 w) → Agree f x (round_to_format binary32 z) (round_to_format binary32 w)
     go (Agreement.equal_agree q) = equal q
@@ -183,21 +171,12 @@ agree_near f x z w a b low low' e =
         (holds f (within (middle (round_to_format binary32 z) (round_to_format binary32 w)) (times small_part (unit binary32 (nearer_zero (round_to_format binary32 z) (round_to_format binary32 w))))) (value x) (λ j. a.start j + b.start j)
         (λ j n l. subst (λ (q : ℚ). Bound (cls (middle (round_to_format binary32 z) (round_to_format binary32 w)) -q sum f (value x) j n) q) (part_units (unit binary32 (nearer_zero (round_to_format binary32 z) (round_to_format binary32 w))))
         (bound_turn (sum f (value x) j n) (cls (middle (round_to_format binary32 z) (round_to_format binary32 w)))
-        (i (sum f (value x) j n) (a.off j n (less (a.start j) (b.start j) n l)) (b.off j n (more (a.start j) (b.start j) n l))))))
-      where
-        less : (p q n : ℕ) → p + q ≤ n → p ≤ n
-        less p q n h = omega arith
-
-        more : (p q n : ℕ) → p + q ≤ n → q ≤ n
-        more p q n h = omega arith
+        (i (sum f (value x) j n) (a.off j n (omega arith)) (b.off j n (omega arith))))))
 
 -- ---- the sign of a figure
 no_power : (k : ℕ) → dy 1 k ≤q ofℕ 0 → ⊥
 unfolding ofℕ ofℤ
-no_power k h = let l : 1 * 1 ≤ 0 * 2 ^ k = frac_le_out 1 (2 ^ k) 0 1 (pow_pos k) (zero-lt-suc 0) h in zero_out (2 ^ k) l
-  where
-    zero_out : (u : ℕ) → 1 * 1 ≤ 0 * u → ⊥
-    zero_out u l = absurd (omega arith)
+no_power k h = let l : 1 * 1 ≤ 0 * 2 ^ k = frac_le_out 1 (2 ^ k) 0 1 (pow_pos k) (zero-lt-suc 0) h in (omega arith)
 
 not_set : (b : Bool) → T (not b) → b ≡ false
 not_set false t = refl

@@ -1,12 +1,13 @@
 -- Every argument that exp2 and exp10 hand to fma and to round lies in the ranges of the law, for every input that reaches it.
 use Rattle.std.proofs.Common.{◌≤◌, T}
-use lib.Ieee.{Float, binary32, binary64, fits, mul}
-use lib.Ieee.Fits.{mul-fits}
-use lib.Ieee.Scale.{finite}
+use Rattle.std.specs.Float.{Float, binary32, binary64}
+use Rattle.std.specs.Float.Ieee.{fits, mul}
+use Rattle.std.specs.Float.Ieee.Fits.{mul-fits}
+use Rattle.std.specs.Float.Ieee.Scale.{finite}
 use Rattle.exact.proofs.Rational.{◌+q◌, -q◌, ◌-q◌}
 use Rattle.exact.proofs.Order.{nn, ◌≤q◌}
 use Rattle.exact.proofs.Bound.{bound_more}
-use Rattle.rounding.proofs.Fractions.{dy}
+use Rattle.exact.proofs.Compare.{dy}
 use Rattle.arithmetic.specs.Arithmetic.{Arithmetic, Lawful}
 use Rattle.curves.specs.Steps.{magnitude, double}
 use Rattle.curves.specs.Exp2 as Exp2
@@ -19,7 +20,8 @@ use Rattle.accuracy.specs.PowerArguments.{Exp2TableArguments, Exp2Arguments, Exp
 use Rattle.accuracy.proofs.Horner.{f32_range}
 use Rattle.accuracy.proofs.NearZero.{wide, square_range}
 use Rattle.accuracy.proofs.PowerInputs.{near_zero}
-use Rattle.accuracy.proofs.PowerProduct.{unit_range, asked, product_arguments}
+use Rattle.accuracy.proofs.PowerProduct.{unit_range, product_arguments}
+use Rattle.accuracy.proofs.Law.{asked}
 use Rattle.accuracy.proofs.BinaryPolynomial as Six
 use Rattle.accuracy.proofs.DecimalPolynomial as Seven
 use Rattle.accuracy.proofs.BinaryTable as Binary
@@ -34,7 +36,7 @@ exp2_table_lem : (a : Arithmetic) → Lawful a → (x : Float) → T (fits binar
 exp2_table_lem a v x w t = record {
   nearest = record { fit = mul-fits binary64 x (double 0x4050_0000_0000_0000); below = small_in_range _ (Binary.product_small a v x w t).0 (Binary.product_small a v x w t).1 };
   split = asked Binary.step_range (Binary.k_range a v x w t) (Binary.x_range a v x w t);
-  product = product_arguments a.fma (fma_law a v) Binary.k₀ Binary.k₁ Binary.k₂ Binary.k₃ Binary.k₄ Binary.coefficients (Exp2.lo a x) (Exp2.hi a x) (Binary.lo_ready a v x w t) (Binary.lo_size a v x w t) (Binary.hi_scaled a v x w t).0 (Binary.hi_low a v x w t) (Binary.hi_high a v x w t);
+  product = product_arguments a.fma (fma_law a v) Binary.k₀ Binary.k₁ Binary.k₂ Binary.k₃ Binary.k₄ Binary.coefficients (Exp2.lo a x) (Exp2.hi a x) (Binary.lo_ready a v x w t) (Binary.lo_size a v x w t) (Binary.hi_scaled a v x w t).0 (Binary.by_row a v x w t).row_low (Binary.by_row a v x w t).row_high;
 }
 
 exp2_small_lem : (a : Arithmetic) → Lawful a → (x : Float) → T (fits binary32 x) → T (finite x) → magnitude x ≤ 0x3d00_0000 → SixArguments a.fma x Six.h₀ Six.h₁ Six.h₂ Six.h₃ Six.h₄ Six.h₅
@@ -69,7 +71,7 @@ exp10_table_lem a v x w t =
       nearest = record { fit = mul-fits binary64 Exp10.log2_ten x; below = small_in_range _ (Reduction.product_err x i.is_finite bx).0 (Reduction.product_size x i.is_finite bx) };
       first_step = asked kr (Reduction.constants_ranged).0 (Reduction.x_range a.fma f x (Exp10.kd a x) (Exp10.k a x) rx bx n.is_finite n.is_fit vk n.off);
       second_step = asked kr (Reduction.constants_ranged).1 (Reduction.first_range a.fma f x (Exp10.kd a x) (Exp10.k a x) rx bx n.is_finite n.is_fit vk n.off);
-      product = product_arguments a.fma f Decimal.k₀ Decimal.k₁ Decimal.k₂ Decimal.k₃ Decimal.k₄ Decimal.coefficients (Exp10.lo a x) (Exp10.hi a x) (Decimal.lo_fine a v x w t) (bound_more (Decimal.lo_small a v x w t) lo_nums) (Decimal.row_scaled a v x w t).0 (Decimal.hi_low a v x w t) (Decimal.hi_high a v x w t);
+      product = product_arguments a.fma f Decimal.k₀ Decimal.k₁ Decimal.k₂ Decimal.k₃ Decimal.k₄ Decimal.coefficients (Exp10.lo a x) (Exp10.hi a x) (Decimal.lo_fine a v x w t) (bound_more (Decimal.lo_small a v x w t) lo_nums) (Decimal.row_scaled a v x w t).0 (Decimal.by_row a v x w t).row_low (Decimal.by_row a v x w t).row_high;
     }
 
 exp10_small_lem : (a : Arithmetic) → Lawful a → (x : Float) → T (fits binary32 x) → T (finite x) → magnitude x ≤ 0x3d00_0000 → SevenArguments a.fma x Seven.s₀ Seven.s₁ Seven.s₂ Seven.s₃ Seven.s₄ Seven.s₅ Seven.s₆

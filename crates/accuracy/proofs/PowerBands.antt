@@ -1,6 +1,7 @@
 -- The bands of exp2 and exp10 that need no table: infinity, 1 near one, +0; and exp2's 2 ^ -149 and whole numbers.
 use Rattle.std.proofs.Common.{◌≡◌, ℕ, suc, ◌-◌, ◌*◌, ◌^◌, ◌≤◌, false, T, [], ◌∷◌, ℤ, pos, negsuc, nat_abs, sym, refl, ap, ◌∙◌, subst, ap₂, zero-lt-suc, arith, lit≤, pow_pos}
-use lib.Ieee.{Float, inf, fin, binary32, fits, size}
+use Rattle.std.specs.Float.{Float, inf, fin, binary32}
+use Rattle.std.specs.Float.Ieee.{fits, size}
 use std.Quotient.{cls}
 use Rattle.exact.specs.Fraction.{Fraction, times, opposite, Same}
 use Rattle.exact.specs.Logarithm.{Base, binary, decimal, lowest}
@@ -10,8 +11,8 @@ use Rattle.exact.proofs.Ring.{con, ◌⊕◌, ◌⊖◌, ◌⊗◌, ⊝, norm}
 use Rattle.exact.proofs.Integer.{x₀, x₁, x₂, x₃, x₄}
 use Rattle.exact.proofs.Rational.{ℚ, is, ◌+q◌, ◌*q◌, -q◌, ◌-q◌, ofℤ, qring}
 use Rattle.exact.proofs.Order.{nn, nn_add, nn_mul, ◌≤q◌, le_by, q_trans, q_add, q_neg, q_mul}
-use Rattle.exact.proofs.Bound.{ofℕ, inv, nn_ofℕ, ofℕ_mono, nn_le, le_nn, Bound, bound_more, bound_add, bound_neg, bound_mul, bound_self, bound_turn, bound_above, bound_below, mul_right}
-use Rattle.exact.proofs.Compare.{product_cls, neg_cls, fr, nn_fr, nn_dy}
+use Rattle.exact.proofs.Bound.{ofℕ, inv, nn_ofℕ, ofℕ_mono, nn_le, le_nn, Bound, bound_more, bound_add, bound_neg, bound_mul, bound_self, bound_turn, bound_above, bound_below, mul_right, bound_is}
+use Rattle.exact.proofs.Compare.{product_cls, neg_cls, fr, nn_fr, nn_dy, dy}
 use Rattle.exact.proofs.Relative.{Rel}
 use Rattle.exact.proofs.Series.{S, from, later}
 use Rattle.exact.proofs.Product.{mult}
@@ -23,7 +24,6 @@ use Rattle.exact.proofs.Logarithm.{low, cut, root, low_near_root, low_nn, low_bo
 use Rattle.exact.proofs.Powers.{raise, raised_at, rest_small}
 use Rattle.rounding.specs.Values.{value}
 use Rattle.rounding.specs.Units.{unit, power}
-use Rattle.rounding.proofs.Fractions.{dy}
 use Rattle.rounding.proofs.Value.{val, val_value}
 use Rattle.rounding.proofs.Distance.{abs_nn}
 use Rattle.rounding.proofs.Figure.{held_units}
@@ -155,7 +155,7 @@ high_side = (ofℤ (pos 1) +q dy 1 74) *q dy 1 150 *q ((ofℤ (pos 1) +q dy 1 74
 least_nums : T (nn low_side) × T (nn ((ofℤ (pos 1) +q dy 1 74) *q dy 1 150)) × (val least -q low_side +q dy 1 500 ≤q cls (times half_and_part (unit binary32 least))) × (high_side +q dy 1 500 -q val least ≤q cls (times half_and_part (unit binary32 least))) × (ofℕ 150 *q ofℕ 1 +q ofℕ 1 ≤q ofℕ 201) × (ofℕ 201 +q ofℕ 201 ≤q ofℕ 1000)
     × T (nn (ofℕ 150 *q ofℕ 1 +q ofℕ 1)) × (root binary +q dy 1 84 ≤q ofℕ 1) × (-q◌ (ofℕ 149) ≤q ofℤ (pos 0)) × Bound (ofℤ (negsuc 149)) (ofℕ 150) × T (nn (ofℤ (pos 0)))
 unfolding nn ◌-q◌ ◌+q◌ -q◌ ◌*q◌ ofℕ ofℤ unit size val low_side high_side
-least_nums = (tt, tt, record { le = tt }, record { le = tt }, record { le = tt }, record { le = tt }, tt, record { le = tt }, record { le = tt }, record { hi = record { le = tt }; lo = record { le = tt } }, tt)
+least_nums = (tt, tt, record { le = tt }, record { le = tt }, record { le = tt }, record { le = tt }, tt, record { le = tt }, record { le = tt }, bound_is tt tt, tt)
 
 powers_are : (raise binary (negsuc 149) ≡ dy 1 150) × (raise binary (pos 1) ≡ ofℕ 2)
 unfolding ofℕ ofℤ

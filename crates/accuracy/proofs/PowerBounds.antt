@@ -1,16 +1,15 @@
 -- The bounds of exp2 and exp10 before the narrowing, said with the exact value.
 use Rattle.std.proofs.Common.{ℕ, pos, sym, refl, ap, ◌∙◌, subst}
-use lib.Ieee.{Float}
+use Rattle.std.specs.Float.{Float}
 use std.Quotient.{cls}
 use Rattle.exact.specs.Fraction.{dyadic, times, absolute}
 use Rattle.exact.specs.Exponential.{within}
 use Rattle.exact.specs.Exact.{Function, exp2, exp10}
 use Rattle.exact.proofs.Rational.{ℚ, ◌*q◌, -q◌, ◌-q◌}
 use Rattle.exact.proofs.Bound.{absq, Bound}
-use Rattle.exact.proofs.Compare.{product_cls}
+use Rattle.exact.proofs.Compare.{product_cls, dy}
 use Rattle.exact.proofs.Claims.{holds}
 use Rattle.rounding.specs.Values.{value}
-use Rattle.rounding.proofs.Fractions.{dy}
 use Rattle.rounding.proofs.Value.{val, val_value}
 use Rattle.rounding.proofs.Distance.{abs_cls}
 use Rattle.curves.proofs.Law.{fma_law}
@@ -33,7 +32,7 @@ near_by f e x z w = record {
 }
 
 pub exp2_inner : Exp2Inner
-exp2_inner a v x w = (λ t. (refl, near_by exp2 43 x _ (Binary.table_is_near a v x w t)), λ t h. (refl, near_by exp2 47 x _ (Six.small_is_near a.fma (fma_law a v) x t w (near_zero x w t h))))
+exp2_inner a v x w = (λ t. (refl, near_by exp2 43 x _ (Binary.by_row a v x w t).near), λ t h. (refl, near_by exp2 47 x _ (Six.small_is_near a.fma (fma_law a v) x t w (near_zero x w t h))))
 
 pub exp10_inner : Exp10Inner
-exp10_inner a v x w = (λ t. (refl, near_by exp10 43 x _ (Decimal.table_is_near a v x w t)), λ t h. (refl, near_by exp10 43 x _ (Seven.small_is_near a.fma (fma_law a v) x t w (near_zero x w t h))))
+exp10_inner a v x w = (λ t. (refl, near_by exp10 43 x _ (Decimal.by_row a v x w t).near), λ t h. (refl, near_by exp10 43 x _ (Seven.small_is_near a.fma (fma_law a v) x t w (near_zero x w t h))))

@@ -1,13 +1,15 @@
 -- What the patterns of exp2's and exp10's bands say of the input as a number.
 use Rattle.std.proofs.Common.{ℕ, ◌+◌, ◌*◌, ◌^◌, ◌<◌, ◌≤◌, true, false, T, [], pos, sym, refl, ◌∙◌, subst, inr, ⊎_elim, le_trans, mul-le-mul_right, arith, lit≤, pow_pos}
-use lib.Ieee.{Float, nan, inf, fin, binary32, fits, is_nan, to_bits}
-use lib.Ieee.Scale.{finite}
+use Rattle.std.specs.Float.{Float, nan, inf, fin, binary32}
+use Rattle.std.specs.Float.Ieee.{fits, is_nan, to_bits}
+use Rattle.std.specs.Float.Ieee.Scale.{finite}
 use Rattle.exact.specs.Logarithm.{binary, decimal}
 use Rattle.exact.proofs.Ring.{con, ⊝, norm}
 use Rattle.exact.proofs.Rational.{ℚ, ◌+q◌, ◌*q◌, -q◌, ◌-q◌, ofℤ, qring}
 use Rattle.exact.proofs.Order.{nn, ◌≤q◌, q_trans, q_neg}
 use Rattle.exact.proofs.Bound.{ofℕ, nn_le, Bound, bound_more}
-use Rattle.rounding.proofs.Fractions.{dy, nn_frac, frac_neg}
+use Rattle.exact.proofs.Compare.{dy}
+use Rattle.rounding.proofs.Fractions.{nn_frac, frac_neg}
 use Rattle.rounding.proofs.Value.{val}
 use Rattle.rounding.proofs.Multiple.{Away}
 use Rattle.rounding.proofs.Patterns.{sized, size_of, size_mono, sized_mono}

@@ -9,14 +9,13 @@ use Rattle.exact.proofs.Integer.{x₀, x₁, x₂}
 use Rattle.exact.proofs.Rational.{ℚ, ◌+q◌, ◌*q◌, -q◌, ◌-q◌, ofℤ, qring}
 use Rattle.exact.proofs.Order.{nn, nn_add, nn_mul, ◌≤q◌, le_by, q_refl, q_trans, q_add, q_neg, q_mul, q_total}
 use Rattle.exact.proofs.Bound.{ofℕ, inv, nn_ofℕ, ofℕ_mono, nn_le, le_nn, Bound, bound_more, bound_turn, bound_above, bound_below, mul_right}
-use Rattle.exact.proofs.Compare.{product_cls, whole_cls, fr, nn_fr, abs_nn, bound_abs}
+use Rattle.exact.proofs.Compare.{product_cls, whole_cls, fr, nn_fr, abs_nn, bound_abs, dy}
 use Rattle.exact.proofs.Series.{S, R, from, later}
 use Rattle.exact.proofs.Vanish.{Place, vanishes}
 use Rattle.exact.proofs.Growth.{S_mono, R_mono}
 use Rattle.exact.proofs.Negative.{S_negative}
 use Rattle.exact.proofs.Compute.{run, test, held}
 use Rattle.exact.proofs.Logarithm.{low, cut, root, low_near_root, low_nn, low_bound}
-use Rattle.rounding.proofs.Fractions.{dy}
 use Rattle.accuracy.proofs.Outcome.{sum, Under}
 
 -- the sums of b ^ x are those of e ^ (x l), for l the lower end of a bracket of ln b

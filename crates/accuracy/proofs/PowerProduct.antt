@@ -1,16 +1,16 @@
 -- The steps that exp2 and exp10 share past their splits: mh, a row with a power of two, times the polynomial at lo. What is computed is within 2 ^ -50 of it, in parts of mh, and every argument lies in the range of the law.
 use Rattle.std.proofs.Common.{◌≡◌, ◌^◌, T, [], ◌∷◌, pos, refl, subst, inr, lit≤}
-use lib.Ieee.{Float, binary64, mul, of_bits, fits}
-use lib.Ieee.Fits.{mul-fits}
-use lib.Ieee.Scale.{finite}
+use Rattle.std.specs.Float.{Float, binary64}
+use Rattle.std.specs.Float.Ieee.{mul, of_bits, fits}
+use Rattle.std.specs.Float.Ieee.Fits.{mul-fits}
+use Rattle.std.specs.Float.Ieee.Scale.{finite}
 use Rattle.exact.proofs.Ring.{con, ◌⊕◌, ◌⊖◌, ◌⊗◌, ⊝, norm}
 use Rattle.exact.proofs.Integer.{x₀, x₁, x₂, x₃, x₄, x₅, x₆, x₇}
 use Rattle.exact.proofs.Rational.{ℚ, ◌+q◌, ◌*q◌, -q◌, ◌-q◌, ofℤ, qring}
 use Rattle.exact.proofs.Order.{nn, nn_add, ◌≤q◌, le_by, q_trans, q_mul}
-use Rattle.exact.proofs.Bound.{ofℕ, nn_le, le_nn, Bound, bound_more, bound_add, bound_mul, bound_self, mul_right}
-use Rattle.exact.proofs.Compare.{nn_dy}
+use Rattle.exact.proofs.Bound.{ofℕ, nn_le, le_nn, Bound, bound_more, bound_add, bound_mul, bound_self, mul_right, bound_is}
+use Rattle.exact.proofs.Compare.{nn_dy, dy}
 use Rattle.rounding.specs.Ranges.{Ranged, Permitted}
-use Rattle.rounding.proofs.Fractions.{dy}
 use Rattle.rounding.proofs.Value.{val, mul_rounds}
 use Rattle.rounding.proofs.Error.{eps, tiny, round_err}
 use Rattle.rounding.proofs.Horner.{ball_size, Step}
@@ -19,9 +19,8 @@ use Rattle.rounding.proofs.Range.{FmaLaw, ranged, ranged_finite}
 use Rattle.rounding.proofs.Scaled.{part, part₂, above, mul_part, fma_part}
 use Rattle.curves.specs.Steps.{double, times_power_value}
 use Rattle.curves.proofs.Decimal.{Ready, ready_range}
-use Rattle.curves.proofs.Law.{ranged_in}
-use Rattle.accuracy.specs.Arguments.{Asked}
 use Rattle.accuracy.specs.PowerArguments.{ProductArguments}
+use Rattle.accuracy.proofs.Law.{asked}
 use Rattle.accuracy.proofs.Horner.{Stage, horner}
 
 -- ---- five coefficients, and 1
@@ -31,10 +30,6 @@ unit = double 0x3ff0_0000_0000_0000
 pub unit_range : Ranged binary64 400 unit
 unfolding of_bits fits
 unit_range = (tt, inr (lit≤ tt, lit≤ tt))
-
--- a multiply-add of numbers in the range of the law is asked for within it
-pub asked : {x y z : Float} → Ranged binary64 400 x → Ranged binary64 400 y → Ranged binary64 400 z → Asked binary64 400 x y z
-asked {x} {y} {z} a b c = record { of_x = ranged_in binary64 399 x a; of_y = ranged_in binary64 399 y b; of_z = ranged_in binary64 399 z c }
 
 -- what is asked of the coefficients: their range, their sizes, and that two of them are not small
 pub record Coefficients (k₀ k₁ k₂ k₃ k₄ : Float) : Type 0 where
@@ -73,7 +68,7 @@ most_nums = (record { le = tt }, record { le = tt }, record { le = tt }, record 
 
 low_nums : (dy 1 400 +q (dy 1 7 *q dy 5 1 +q dy 1 52) ≤q val unit) × (dy 1 1 +q (dy 1 7 *q dy 5 1 +q dy 1 52) ≤q val unit) × (dy 1 400 +q (dy 1 7 *q dy 3 0 +q dy 1 51) ≤q dy 1 3 +q (dy 1 7 *q dy 3 0 +q dy 1 51)) × (dy 1 400 +q (dy 1 13 *q dy 3 0 +q dy 1 50) ≤q dy 1 3) × Bound (val unit) (dy 1 0)
 unfolding nn ◌-q◌ ◌+q◌ -q◌ ◌*q◌ val of_bits
-low_nums = (record { le = tt }, record { le = tt }, record { le = tt }, record { le = tt }, record { hi = record { le = tt }; lo = record { le = tt } })
+low_nums = (record { le = tt }, record { le = tt }, record { le = tt }, record { le = tt }, bound_is tt tt)
 
 square_nums : (dy 1 7 *q dy 1 7 ≤q ofℕ (2 ^ 100)) × (dy 1 7 *q dy 1 7 *q eps binary64 +q tiny binary64 ≤q dy 1 66) × (dy 1 7 *q dy 1 7 +q dy 1 66 ≤q dy 1 13) × (dy 1 50 +q (dy 1 66 *q (dy 1 7 *q dy 1 0 +q dy 2 0) +q dy 1 51) ≤q dy 1 49) × (dy 4 0 +q dy 1 51 ≤q dy 5 0) × (dy 66 6 +q dy 1 52 ≤q dy 67 6) × (dy 5 0 +q dy 1 49 ≤q dy 6 0)
     × (dy 1 7 *q dy 1 7 *q (dy 1 7 *q dy 1 0 +q dy 2 0) +q (dy 1 7 *q dy 3 0 +q dy 3 0) ≤q dy 5 0)
@@ -96,7 +91,7 @@ unfolding norm ◌-q◌
 same a = subst (λ (u : ℚ). Bound u (dy 1 60)) (qring (con (pos 0)) (x₀ ⊖ x₀) refl (a ∷ [])) none
   where
     none : Bound (ofℤ (pos 0)) (dy 1 60)
-    none = unfold nn ◌-q◌ ◌+q◌ -q◌ ofℤ in record { hi = record { le = tt }; lo = record { le = tt } }
+    none = unfold nn ◌-q◌ ◌+q◌ -q◌ ofℤ in bound_is tt tt
 
 pub start : (k : Float) (V : ℚ) → Ranged binary64 400 k → Bound (val k) V → Stage k (val k) V (dy 1 60)
 start k V r b = record { ball = record { is_finite = ranged_finite binary64 400 k r; off = same (val k); size = b }; range = r }

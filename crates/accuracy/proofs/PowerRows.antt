@@ -1,18 +1,18 @@
 -- The rows of exp2's and exp10's tables: 2 ^ (i / 64) and 2 ^ (i / 32), from 1 to 2 and within half a unit of 2 ^ -52.
 use Rattle.std.proofs.Common.{◌≡◌, ℕ, ◌+◌, ◌-◌, ◌*◌, ◌^◌, ◌<◌, ◌≤◌, false, T, List, [], ◌∷◌, length, get_or, pos, sym, refl, ap, ◌∙◌, subst, le_trans, zero-lt-suc, mul-pos, arith, lit≤, pow_pos, pow-add}
-use native.Mathlib.Nat.{le_of_suc-le}
+use Rattle.std.proofs.Math.Nat.{le_of_suc-le}
 use Rattle.exact.specs.Logarithm.{binary}
 use Rattle.exact.proofs.Ring.{con, ◌⊗◌, norm}
 use Rattle.exact.proofs.Integer.{x₀}
 use Rattle.exact.proofs.Rational.{ℚ, ◌+q◌, ◌*q◌, -q◌, ◌-q◌, ofℤ, qring}
 use Rattle.exact.proofs.Order.{nn, ◌≤q◌, q_trans, q_mul}
-use Rattle.exact.proofs.Bound.{ofℕ, Bound, bound_more, bound_mul, bound_self, bound_turn}
-use Rattle.exact.proofs.Compare.{fr, nn_dy, nn_fr, fr_le}
+use Rattle.exact.proofs.Bound.{ofℕ, Bound, bound_more, bound_mul, bound_self, bound_turn, bound_is}
+use Rattle.exact.proofs.Compare.{fr, nn_dy, nn_fr, fr_le, dy}
 use Rattle.exact.proofs.Series.{S}
 use Rattle.exact.proofs.Compute.{run, test}
 use Rattle.exact.proofs.Logarithm.{root}
 use Rattle.exact.proofs.Table.{every, power_test, power_row}
-use Rattle.rounding.proofs.Fractions.{dy, frac_same}
+use Rattle.rounding.proofs.Fractions.{frac_same}
 use Rattle.rounding.proofs.Value.{val, value_is}
 use Rattle.curves.specs.Tables.{table_exp2_mid, table_exp2f}
 use Rattle.curves.specs.Steps.{double, row}
@@ -39,13 +39,10 @@ number : (b : ℕ) → FromOne b → val (double b) ≡ fr (pos (steps b)) (2 ^ 
 number b w =
     value_is (double b) false ((2 ^ 52 + (b - 1023 * 2 ^ 52)) * 2 ^ 1022) (2 ^ 1074) (pow_pos 1074) (row_has b w)
     ∙ frac_same false ((2 ^ 52 + (b - 1023 * 2 ^ 52)) * 2 ^ 1022) (2 ^ 1074) (steps b) (2 ^ 52) (pow_pos 1074) (pow_pos 52)
-    (ap (λ (n : ℕ). n * 2 ^ 1022 * 2 ^ 52) (split b w.least) ∙ turn (steps b) (2 ^ 1022) (2 ^ 52) ∙ ap (λ (n : ℕ). steps b * n) (sym (pow-add 2 1022 52)))
+    (ap (λ (n : ℕ). n * 2 ^ 1022 * 2 ^ 52) (split b w.least) ∙ omega arith ∙ ap (λ (n : ℕ). steps b * n) (sym (pow-add 2 1022 52)))
   where
     split : (b : ℕ) → 1023 * 2 ^ 52 ≤ b → 2 ^ 52 + (b - 1023 * 2 ^ 52) ≡ b - 1022 * 2 ^ 52
     split b h = omega arith
-
-    turn : (a u v : ℕ) → a * u * v ≡ a * (u * v)
-    turn a u v = omega arith
 
 from_one : (b : ℕ) → FromOne b → (ofℕ 1 ≤q fr (pos (steps b)) (2 ^ 52) (pow_pos 52)) × (fr (pos (steps b)) (2 ^ 52) (pow_pos 52) ≤q ofℕ 2)
 unfolding ofℕ ofℤ
@@ -57,7 +54,7 @@ half_step = record { le = tt }
 
 root_one : Bound (root binary) (ofℕ 1)
 unfolding nn ◌-q◌ ◌+q◌ -q◌ ofℕ ofℤ
-root_one = record { hi = record { le = tt }; lo = record { le = tt } }
+root_one = bound_is tt tt
 
 -- ---- the rule of a table with c rows
 rule : (table : List ℕ) (c : ℕ) (C : 0 < c) → T (every (power_test binary c 40 (2 ^ 52) steps one_step) 0 table) → length table ≡ c → (i : ℕ) → i < c → FromOne (get_or table i 0) → RowRule (row table i) (fr (pos i) c C *q root binary)

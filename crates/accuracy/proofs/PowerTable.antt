@@ -1,30 +1,34 @@
 -- A row with a power of two times the polynomial is within 2 ^ -43 of e ^ t, relative to it, where t is within 2 ^ -58 of the sum of the three logarithms: what exp2 and exp10 share.
 use Rattle.std.proofs.Common.{◌≡◌, ℕ, suc, ◌^◌, ◌<◌, ◌≤◌, T, [], ◌∷◌, ℤ, pos, negsuc, ◌+ℤ◌, ◌*ℤ◌, nat_abs, sym, refl, ap, ◌∙◌, subst, le_trans, arith, lit≤, pow_pos, pow_mono}
-use lib.Ieee.{Float, binary64, of_bits}
-use lib.Ieee.Scale.{finite}
-use borrow.Author.Differences.{ints, le_in}
+use Rattle.std.specs.Float.{Float, binary64}
+use Rattle.std.specs.Float.Ieee.{of_bits}
+use Rattle.std.specs.Float.Ieee.Scale.{finite}
+use Rattle.std.proofs.lemmas.Int.{ints}
 use std.Quotient.{cls}
 use Rattle.exact.specs.Logarithm.{Base, binary}
 use Rattle.exact.proofs.Ring.{con, ◌⊕◌, ◌⊖◌, ◌⊗◌, ⊝, norm}
 use Rattle.exact.proofs.Integer.{zring, x₀, x₁, x₂, x₃, x₄, x₅, x₆}
 use Rattle.exact.proofs.Rational.{ℚ, is, ◌+q◌, ◌*q◌, -q◌, ◌-q◌, ofℤ, qring}
 use Rattle.exact.proofs.Order.{nn, nn_mul, ◌≤q◌, le_by, q_trans, q_add, q_mul}
-use Rattle.exact.proofs.Bound.{ofℕ, inv, nn_ofℕ, ofℕ_mono, nn_le, le_nn, Bound, bound_more, bound_add, bound_mul, bound_self, bound_neg, mul_right, mul_mono}
-use Rattle.exact.proofs.Compare.{fr, nn_dy, dy_mono, leq_in}
+use Rattle.exact.proofs.Bound.{ofℕ, inv, nn_ofℕ, ofℕ_mono, nn_le, le_nn, Bound, bound_more, bound_add, bound_mul, bound_self, bound_neg, mul_right, mul_mono, bound_is}
+use Rattle.exact.proofs.Compare.{fr, nn_dy, dy_mono, leq_in, dy}
 use Rattle.exact.proofs.Relative.{Rel, rel_mul}
-use Rattle.exact.proofs.Series.{term, S, R, later, tail}
+use Rattle.exact.proofs.Series.{term, S, R, from, later, tail}
 use Rattle.exact.proofs.Product.{mult₃}
 use Rattle.exact.proofs.Shift.{shifted}
-use Rattle.exact.proofs.Logarithm.{root}
+use Rattle.exact.proofs.Logarithm.{root, low}
 use Rattle.exact.proofs.Powers.{raise, raised, rest_small, pow_whole, pow_half}
 use Rattle.exact.proofs.Table.{root_bound}
 use Rattle.rounding.specs.Units.{power}
-use Rattle.rounding.proofs.Fractions.{dy}
-use Rattle.rounding.proofs.Value.{val}
+use Rattle.rounding.proofs.Value.{val, val_value}
 use Rattle.rounding.proofs.Range.{FmaLaw}
 use Rattle.curves.specs.Steps.{times_power_value}
 use Rattle.curves.proofs.Decimal.{Ready}
 use Rattle.accuracy.proofs.PowerProduct.{unit, Coefficients, poly, product_near, poly_range}
+use Rattle.exact.specs.Laws.{of_base}
+use Rattle.rounding.specs.Values.{value}
+use Rattle.accuracy.proofs.Outcome.{Near, near_positive, nearer, close, Wide}
+use Rattle.accuracy.proofs.PowerLimits.{sum_is}
 
 -- ---- the polynomial against the series
 -- the coefficients are near those of b ^ t, for a t of size E at most
@@ -73,7 +77,7 @@ lift t u w c d X F G bt b k = subst (λ (z : ℚ). Bound z (X *q F +q G)) (qring
 
 unit_near : Bound (val unit -q ofℕ 1) (dy 1 60)
 unfolding nn ◌-q◌ ◌+q◌ -q◌ val of_bits ofℕ ofℤ
-unit_near = record { hi = record { le = tt }; lo = record { le = tt } }
+unit_near = bound_is tt tt
 
 series_nums : dy 1 47 +q dy 1 47 ≤q dy 1 46
 unfolding nn ◌-q◌ ◌+q◌ -q◌
@@ -125,7 +129,7 @@ power_range (negsuc h) s = (
 
 whole_size : (h : ℤ) → nat_abs h ≤ 159 → Bound (ofℤ h) (ofℕ 160)
 unfolding ofℤ ofℕ -q◌
-whole_size h s = record { hi = leq_in _ _ (le_in (h *ℤ pos 1) (pos 160) (omega (arith, ints))); lo = leq_in _ _ (le_in (negsuc 159) (h *ℤ pos 1) (omega (arith, ints))) }
+whole_size h s = record { hi = leq_in _ _ (omega (arith, ints)); lo = leq_in _ _ (omega (arith, ints)) }
 
 -- a whole number over c, in whole parts and a rest
 pub part_split : (c : ℕ) (C : 0 < c) (h : ℤ) (i : ℕ) → fr (pos c *ℤ h +ℤ pos i) c C ≡ ofℤ h +q fr (pos i) c C
@@ -139,6 +143,13 @@ pub record RowRule (y : Float) (r : ℚ) : Type 0 where
   pub below : val y ≤q ofℕ 2
   pub argument : Bound r (ofℕ 1)
 
+-- the value z of a row mh at x: the row's size, and how near z is to b ^ x
+pub record FromRow (b : Base) (x mh z : Float) : Type 0 where
+  pub row_low : dy 1 160 ≤q val mh
+  pub row_high : val mh ≤q ofℕ (2 ^ 160)
+  pub near : Near (of_base b) (value x) (dy 1 43) z
+  pub wide : Wide (of_base b) (value x) 162 z
+
 abbrev err₁ : ℚ
 err₁ = dy 1 80 +q dy 1 52 +q dy 1 80 *q dy 1 52
 
@@ -151,9 +162,9 @@ err₃ = err₂ +q dy 1 60
 abbrev err₄ : ℚ
 err₄ = err₃ +q (dy 1 58 +q dy 1 58) +q err₃ *q (dy 1 58 +q dy 1 58) +q dy 1 60
 
-err_nums : (dy 1 49 +q err₄ ≤q dy 1 44) × (dy 1 44 ≤q dy 1 43 *q (ofℤ (pos 1) -q dy 1 49)) × (dy 1 50 ≤q dy 1 49 *q dy 31 5) × (dy 1 1 ≤q ofℤ (pos 1) -q dy 1 49) × (dy 1 162 ≤q dy 1 1 *q (dy 1 160 *q dy 31 5)) × (dy 1 46 ≤q dy 1 45 *q dy 31 5)
+err_nums : (dy 1 49 +q err₄ ≤q dy 1 44) × (dy 1 44 ≤q dy 1 43 *q (ofℤ (pos 1) -q dy 1 49)) × (dy 1 50 ≤q dy 1 49 *q dy 31 5) × (dy 1 1 ≤q ofℤ (pos 1) -q dy 1 49) × (dy 1 162 ≤q dy 1 1 *q (dy 1 160 *q dy 31 5)) × (dy 1 46 ≤q dy 1 45 *q dy 31 5) × (dy 1 43 ≤q close)
 unfolding nn ◌-q◌ ◌+q◌ -q◌ ◌*q◌ ofℕ ofℤ
-err_nums = (record { le = tt }, record { le = tt }, record { le = tt }, record { le = tt }, record { le = tt }, record { le = tt })
+err_nums = (record { le = tt }, record { le = tt }, record { le = tt }, record { le = tt }, record { le = tt }, record { le = tt }, record { le = tt })
 
 abbrev H : ℚ
 H = ofℕ 160 *q ofℕ 1
@@ -164,7 +175,7 @@ A = H +q ofℕ 1 +q ofℕ 1
 size_nums : (A ≤q ofℕ 201) × (H +q ofℕ 1 ≤q ofℕ 201) × (A +q dy 1 58 ≤q ofℕ 201) × (dy 33 5 +q dy 1 46 ≤q ofℕ 2) × (dy 1 500 *q ofℕ 2 +q dy 1 500 ≤q dy 1 60 *q (dy 1 160 *q dy 31 5)) × (dy 1 500 ≤q dy 1 60 *q (dy 1 160 *q dy 31 5))
     × (dy 1 160 ≤q ofℕ 1 *q dy 1 159) × (ofℕ 2 *q ofℕ (2 ^ 159) ≤q ofℕ (2 ^ 160)) × (dy 1 7 *q ofℕ 3 ≤q ofℕ 1) × (ofℕ 201 +q ofℕ 201 ≤q ofℕ 1000) × (dy 1 58 ≤q inv 1) × Bound (root binary) (ofℕ 1)
 unfolding nn ◌-q◌ ◌+q◌ -q◌ ◌*q◌ ofℕ ofℤ inv
-size_nums = (record { le = tt }, record { le = tt }, record { le = tt }, record { le = tt }, record { le = tt }, record { le = tt }, record { le = tt }, record { le = tt }, record { le = tt }, record { le = tt }, record { le = tt }, record { hi = record { le = tt }; lo = record { le = tt } })
+size_nums = (record { le = tt }, record { le = tt }, record { le = tt }, record { le = tt }, record { le = tt }, record { le = tt }, record { le = tt }, record { le = tt }, record { le = tt }, record { le = tt }, record { le = tt }, bound_is tt tt)
 
 nn_sizes : T (nn A) × T (nn (H +q ofℕ 1)) × T (nn (A +q dy 1 58))
 unfolding nn ◌+q◌ ◌*q◌ ofℕ ofℤ
@@ -190,10 +201,10 @@ module _ (b : Base) (E : ℚ) (small-E : E ≤q dy 1 7) (k₀ k₁ k₂ k₃ k�
   nn_p : T (nn (cls (power h)))
   nn_p = le_nn (q_trans (nn_le (nn_dy 1 159)) (power_range h hs).0)
 
-  pub mh_low : dy 1 160 ≤q val mh
+  mh_low : dy 1 160 ≤q val mh
   mh_low = subst (λ (u : ℚ). dy 1 160 ≤q u) (sym vm) (q_trans size_nums.6 (mul_mono (nn_ofℕ 1) (nn_dy 1 159) rule.above (power_range h hs).0))
 
-  pub mh_high : val mh ≤q ofℕ (2 ^ 160)
+  mh_high : val mh ≤q ofℕ (2 ^ 160)
   mh_high = subst (λ (u : ℚ). u ≤q ofℕ (2 ^ 160)) (sym vm) (q_trans (mul_mono nn_y nn_p rule.below (power_range h hs).1) size_nums.7)
 
   mh_nn : T (nn (val mh))
@@ -236,9 +247,6 @@ module _ (b : Base) (E : ℚ) (small-E : E ≤q dy 1 7) (k₀ k₁ k₂ k₃ k�
       (subst (λ (u : ℚ). u ≤q dy 1 49 *q (val mh *q poly k₀ k₁ k₂ k₃ k₄ (val lo))) (qring (x₀ ⊗ (x₂ ⊗ x₁)) (x₀ ⊗ x₁ ⊗ x₂) refl (dy 1 49 ∷ dy 31 5 ∷ val mh ∷ [])) (q_mul (dy 1 49) (nn_dy 1 49) (q_mul (val mh) mh_nn pv_low))))
 
   -- ---- the three logarithms
-  abbrev pub logs : ℚ
-  logs = ofℤ h *q root binary +q r +q val lo *q root b
-
   size_h : Bound (ofℤ h *q root binary) H
   size_h = bound_mul (whole_size h hs) size_nums.11
 
@@ -296,7 +304,7 @@ module _ (b : Base) (E : ℚ) (small-E : E ≤q dy 1 7) (k₀ k₁ k₂ k₃ k�
     z_over = le_by (val z -q W -q (-q◌ (dy 1 49 *q W))) z_part.lo.le (qring (x₀ ⊖ (con (pos 1) ⊖ x₂) ⊗ x₁) (x₀ ⊖ x₁ ⊖ ⊝ (x₂ ⊗ x₁)) refl (val z ∷ W ∷ dy 1 49 ∷ []))
 
     -- z is within 2 ^ -43 of itself of every sum at t
-    pub table_near : (t : ℚ) → Bound (t -q (ofℤ h *q root binary +q r +q val lo *q root b)) (dy 1 58) → Bound (val z -q S t n) (dy 1 43 *q val z)
+    table_near : (t : ℚ) → Bound (t -q (ofℤ h *q root binary +q r +q val lo *q root b)) (dy 1 58) → Bound (val z -q S t n) (dy 1 43 *q val z)
     unfolding norm ◌-q◌
     table_near t bt =
         let v = S t n in
@@ -306,8 +314,13 @@ module _ (b : Base) (E : ℚ) (small-E : E ≤q dy 1 7) (k₀ k₁ k₂ k₃ k�
         (q_trans (mul_right W W_nn err_nums.1)
         (subst (λ (u : ℚ). u ≤q dy 1 43 *q val z) (qring (x₀ ⊗ (x₁ ⊗ x₂)) (x₀ ⊗ x₁ ⊗ x₂) refl (dy 1 43 ∷ (ofℤ (pos 1) -q dy 1 49) ∷ W ∷ [])) (q_mul (dy 1 43) (nn_dy 1 43) z_over))))
 
-  pub table_finite : T (finite z)
-  table_finite = computed.0
-
-  pub table_low : dy 1 162 ≤q val z
+  table_low : dy 1 162 ≤q val z
   table_low = q_trans err_nums.4 (q_trans (q_mul (dy 1 1) (nn_dy 1 1) W_low) (q_trans (mul_right W W_nn err_nums.3) (z_over 1000 (lit≤ tt))))
+
+  -- for the x of which lo is the rest
+  pub from_row : (x : Float) → ((j : ℕ) → Bound (val x *q low b (from 80 j) -q (ofℤ h *q root binary +q r +q val lo *q root b)) (dy 1 58)) → FromRow b x mh z
+  from_row x split = record { row_low = mh_low; row_high = mh_high; near = near; wide = record { above = table_low; near = nearer close err_nums.6 near } }
+    where
+      near : Near (of_base b) (value x) (dy 1 43) z
+      near = near_positive (of_base b) (value x) (dy 1 43) z computed.0 (le_nn (q_trans (nn_le (nn_dy 1 162)) table_low)) (λ j. 1000) (λ j n l.
+          subst (λ (u : ℚ). Bound (val z -q u) (dy 1 43 *q val z)) (ap (λ (u : ℚ). S (u *q low b (from 80 j)) n) (val_value x) ∙ sym (sum_is b (value x) j n)) (table_near n l (val x *q low b (from 80 j)) (split j)))

@@ -1,11 +1,13 @@
 -- The rows of exp's two tables: each is an f64 above 0, between 2 ^ -160 and 2 ^ 160, and the series at m, or at i / 128, is within 2 ^ -52 of it, relative to it.
-use Rattle.std.proofs.Common.{◌≡◌, ℕ, suc, ◌+◌, ◌-◌, ◌*◌, ◌/◌, ◌%◌, ◌^◌, ◌<◌, ◌≤◌, Bool, false, T, leb, length, get_or, pos, ◌-ℤ◌, nat_abs, sym, refl, ap, ◌∙◌, subst, le_trans, mul-le-mul_right, mod-lt, zero-lt-suc, mul-le-mul, pow-suc, arith, lit≤, le→leb, leb→le, pow_pos, pow_mono}
-use lib.Dec.{not_T}
-use lib.Ieee.{Float, binary64, of_bits, fits}
-use lib.Ieee.Exact.{HasValue}
-use lib.Ieee.Bits.{of_bits-fits, is_false}
-use lib.Ieee.Scale.{finite}
-use borrow.Author.Differences.{ints}
+use Rattle.std.proofs.Common.{◌≡◌, ℕ, suc, ◌+◌, ◌-◌, ◌*◌, ◌/◌, ◌%◌, ◌^◌, ◌<◌, ◌≤◌, Bool, false, T, leb, length, get_or, pos, ◌-ℤ◌, nat_abs, sym, refl, ap, ◌∙◌, subst, le_trans, mul-le-mul_right, mod-lt, zero-lt-suc, mul-le-mul, pow-suc, arith, lit≤, le→leb, leb→le, pow_pos, pow_mono, ◌&&◌}
+use Rattle.std.specs.Float.{Float, binary64}
+use Rattle.std.specs.Float.Ieee.{of_bits, fits}
+use Rattle.std.specs.Float.Ieee.Exact.{HasValue}
+use Rattle.std.specs.Float.Ieee.Bits.{of_bits-fits, is_false}
+use Rattle.std.specs.Float.Ieee.Scale.{finite}
+use Rattle.std.proofs.Math.Dec.{not_T}
+use Rattle.std.proofs.lemmas.Int.{ints}
+use Rattle.std.specs.Float.Ieee.Fits.{and_l, and_r}
 use Rattle.exact.proofs.Rational.{ℚ, is, ofℤ}
 use Rattle.exact.proofs.Order.{◌≤q◌}
 use Rattle.exact.proofs.Bound.{ofℕ}
@@ -13,7 +15,7 @@ use Rattle.exact.proofs.Compare.{fr, dy, leq_in}
 use Rattle.exact.proofs.Relative.{Rel}
 use Rattle.exact.proofs.Series.{S}
 use Rattle.exact.proofs.Compute.{run, test}
-use Rattle.exact.proofs.Table.{both, both_left, both_right, every, row, exp_test, exp_row, unit_rel}
+use Rattle.exact.proofs.Table.{every, row, exp_test, exp_row, unit_rel}
 use Rattle.rounding.proofs.Value.{val, finite_is, value_is}
 use Rattle.rounding.proofs.Patterns.{pattern_normal}
 use Rattle.curves.specs.Tables.{table_exp_m1, table_exp_m2}
@@ -30,14 +32,11 @@ abbrev pub number : ℕ → ℚ
 number b = fr (pos (sig b)) (2 ^ 1075) (pow_pos 1075)
 
 pub unit_part : (b : ℕ) → ulp b * 2 ^ 52 ≤ sig b
-unit_part b = go (b % 2 ^ 52) (2 ^ (b / 2 ^ 52))
-  where
-    go : (r u : ℕ) → u * 2 ^ 52 ≤ (2 ^ 52 + r) * u
-    go r u = omega arith
+unit_part b = omega arith
 
 -- between 2 ^ -160 and 2 ^ 160: the exponent's field lies between 863 and 1183, above the sign no bit is set
 abbrev pub inside : ℕ → Bool
-inside b = both (leb (864 * 2 ^ 52) b) (leb b (1182 * 2 ^ 52))
+inside b = leb (864 * 2 ^ 52) b && leb b (1182 * 2 ^ 52)
 
 -- what a row is
 pub record Row (t : Float) (q : ℚ) : Type 0 where
@@ -58,43 +57,25 @@ row_number g x e h = is (ap pos (row_same (2 ^ 1074) g (2 ^ x) (2 ^ e) (ap (λ (
 
 pub row_of : (b : ℕ) → T (inside b) → Row (of_bits binary64 b) (number b)
 row_of b t =
-    let h : 864 * 2 ^ 52 ≤ b = leb→le (864 * 2 ^ 52) b (both_left (leb (864 * 2 ^ 52) b) _ t) in
-    let k : b ≤ 1182 * 2 ^ 52 = leb→le b (1182 * 2 ^ 52) (both_right (leb (864 * 2 ^ 52) b) _ t) in
+    let h : 864 * 2 ^ 52 ≤ b = leb→le (864 * 2 ^ 52) b (and_l (leb (864 * 2 ^ 52) b) _ t) in
+    let k : b ≤ 1182 * 2 ^ 52 = leb→le b (1182 * 2 ^ 52) (and_r (leb (864 * 2 ^ 52) b) _ t) in
     let f = field_of b h k in
     let e = b / 2 ^ 52 in
     let x = e - 1 in
-    let ex : e ≡ suc x = pred e f.0 in
-    let fx : b % 2 ^ 63 / 2 ^ 52 ≡ suc x = whole_field b k ∙ ex in
-    let v : HasValue (of_bits binary64 b) (leb (2 ^ 63) b) ((2 ^ 52 + b % 2 ^ 52) * 2 ^ x) (2 ^ 1074) = pattern_normal binary64 b x fx (under e x ex f.1) in
+    let ex : e ≡ suc x = omega (arith, f.0) in
+    let fx : b % 2 ^ 63 / 2 ^ 52 ≡ suc x = (omega arith) ∙ ex in
+    let v : HasValue (of_bits binary64 b) (leb (2 ^ 63) b) ((2 ^ 52 + b % 2 ^ 52) * 2 ^ x) (2 ^ 1074) = pattern_normal binary64 b x fx (omega (arith, f.1)) in
     let w : HasValue (of_bits binary64 b) false ((2 ^ 52 + b % 2 ^ 52) * 2 ^ x) (2 ^ 1074) = subst (λ (s : Bool). HasValue (of_bits binary64 b) s ((2 ^ 52 + b % 2 ^ 52) * 2 ^ x) (2 ^ 1074)) (no_sign b k) v in
     record {
       is_finite = finite_is (of_bits binary64 b) false _ _ w;
       is_fit = of_bits-fits binary64 b;
       value = value_is (of_bits binary64 b) false _ _ (pow_pos 1074) w ∙ row_number (2 ^ 52 + b % 2 ^ 52) x e ex;
-      low = low_end (2 ^ 52 + b % 2 ^ 52) (2 ^ e) (more (b % 2 ^ 52)) (pow_mono f.0);
-      high = high_end (2 ^ 52 + b % 2 ^ 52) (2 ^ e) (less (b % 2 ^ 52) (mod-lt b (pow_pos 52))) (pow_mono f.1);
+      low = low_end (2 ^ 52 + b % 2 ^ 52) (2 ^ e) (omega arith) (pow_mono f.0);
+      high = high_end (2 ^ 52 + b % 2 ^ 52) (2 ^ e) (omega (arith, mod-lt b (pow_pos 52))) (pow_mono f.1);
     }
   where
-    pred : (e : ℕ) → 864 ≤ e → e ≡ suc (e - 1)
-    pred e h = omega arith
-
-    whole_field : (b : ℕ) → b ≤ 1182 * 2 ^ 52 → b % 2 ^ 63 / 2 ^ 52 ≡ b / 2 ^ 52
-    whole_field b k = omega arith
-
-    under : (e x : ℕ) → e ≡ suc x → e ≤ 1182 → suc x < 2047
-    under e x h k = omega arith
-
     no_sign : (b : ℕ) → b ≤ 1182 * 2 ^ 52 → leb (2 ^ 63) b ≡ false
-    no_sign b k = is_false (leb (2 ^ 63) b) (not_T (leb (2 ^ 63) b) (λ t. clash b (leb→le (2 ^ 63) b t) k))
-      where
-        clash : (b : ℕ) → 2 ^ 63 ≤ b → b ≤ 1182 * 2 ^ 52 → ⊥
-        clash b h k = omega arith
-
-    more : (r : ℕ) → 2 ^ 52 ≤ 2 ^ 52 + r
-    more r = omega arith
-
-    less : (r : ℕ) → r < 2 ^ 52 → 2 ^ 52 + r ≤ 2 ^ 53
-    less r h = omega arith
+    no_sign b k = is_false (leb (2 ^ 63) b) (not_T (leb (2 ^ 63) b) (λ t. (omega (arith, leb→le (2 ^ 63) b t))))
 
     low_end : (g u : ℕ) → 2 ^ 52 ≤ g → 2 ^ 864 ≤ u → dy 1 160 ≤q fr (pos (g * u)) (2 ^ 1075) (pow_pos 1075)
     low_end g u h k = leq_in _ _ (le→leb (1 * 2 ^ 1075) (g * u * 2 ^ 160) (le_trans (lit≤ tt) (mul-le-mul_right (2 ^ 160) (mul-le-mul h k))))

@@ -1,10 +1,10 @@
 -- The polynomial times a row of either table: the series at the sum of the three arguments is within 231 * 2 ^ -53 of the product, relative to it.
 use Rattle.std.proofs.Common.{ℕ, ◌*◌, ◌^◌, ◌<◌, ◌≤◌, T, [], ◌∷◌, get_or, pos, negsuc, ◌-ℤ◌, ◌*ℤ◌, refl, subst, le_trans, arith, lit≤, le→leb}
-use lib.Signed.{le_z}
-use lib.Ieee.{Float, binary64, mul, of_bits}
-use lib.Ieee.Scale.{finite}
-use borrow.Author.Differences as D
-use borrow.Author.Differences.{ints}
+use Rattle.std.specs.Int.Signed.{le_z}
+use Rattle.std.specs.Float.{Float, binary64}
+use Rattle.std.specs.Float.Ieee.{mul, of_bits}
+use Rattle.std.specs.Float.Ieee.Scale.{finite}
+use Rattle.std.proofs.lemmas.Int.{ints}
 use Rattle.exact.proofs.Ring.{con, ◌⊕◌, ◌⊖◌, ◌⊗◌, ⊝, norm}
 use Rattle.exact.proofs.Integer.{x₀, x₁, x₂, x₃, x₄}
 use Rattle.exact.proofs.Rational.{ℚ, ◌+q◌, ◌*q◌, -q◌, ◌-q◌, ofℤ, qring}
@@ -61,7 +61,7 @@ halves z w n r = (
 
 -- the product of two floats in the normal range
 pub mul_rel : (x y : Float) (t : ℕ) → T (finite x) → T (finite y) → T (nn (val x *q val y)) → dy 1 1022 ≤q val x *q val y → val x *q val y ≤q ofℕ (2 ^ t) → t < 1023 → T (finite (mul binary64 x y)) × Rel (val (mul binary64 x y)) (val x *q val y) (dy 1 53)
-mul_rel x y t fx fy n lo hi h = let w = rel_round binary64 (mul binary64 x y) (val x *q val y) t (mul_rounds binary64 x y fx fy) n lo hi h in (w.0, record { off = w.1.off })
+mul_rel x y t fx fy n lo hi h = rel_round binary64 (mul binary64 x y) (val x *q val y) t (mul_rounds binary64 x y fx fy) n lo hi h
 
 -- ---- the arguments
 pub whole_size : (i : ℕ) → i < 207 → Bound (whole_arg i) (ofℕ 104)
@@ -69,10 +69,10 @@ unfolding ofℕ ofℤ -q◌
 whole_size i h = record { hi = leq_in _ _ above; lo = leq_in _ _ below }
   where
     above : T (le_z ((pos i -ℤ pos 104) *ℤ pos 1) (pos 104 *ℤ pos 1))
-    above = D.le_in ((pos i -ℤ pos 104) *ℤ pos 1) (pos 104) (omega (arith, ints))
+    above = omega (arith, ints)
 
     below : T (le_z (negsuc 103) ((pos i -ℤ pos 104) *ℤ pos 1))
-    below = D.le_in (negsuc 103) ((pos i -ℤ pos 104) *ℤ pos 1) (omega (arith, ints))
+    below = omega (arith, ints)
 
 pub part_size : (i : ℕ) → i < 128 → Bound (part_arg i) (ofℕ 1)
 unfolding ofℕ ofℤ -q◌

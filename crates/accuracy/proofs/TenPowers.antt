@@ -1,21 +1,21 @@
 -- A power of ten up to 10 ^ 10 is an f32, and the figure of an f64 within 2 ^ -42 of it is that f32.
 use Rattle.std.proofs.Common.{◌≡◌, ℕ, ◌+◌, ◌-◌, ◌*◌, ◌^◌, ◌<◌, ◌≤◌, Bool, false, T, eqb, ltb, [], ◌∷◌, replicate, pos, sym, refl, ap, ◌∙◌, subst, ap₂, inl, inr, le_trans, le_of_eq, le_of_lt, zero-lt-suc, arith, eqb→eq, ltb→lt, pow_pos, pow_mono, pow-add}
-use lib.Ieee.{Float, nan, inf, fin, binary32, fits, size}
-use lib.Ieee.Digits.{size-lt}
-use lib.Ieee.Exact.{HasValue}
-use lib.Ieee.Scale.{finite}
+use Rattle.std.specs.Float.{Float, fin, binary32, round_to_format}
+use Rattle.std.specs.Float.Ieee.{fits, size}
+use Rattle.std.specs.Float.Ieee.Digits.{size-lt}
+use Rattle.std.specs.Float.Ieee.Scale.{finite}
+use Rattle.std.proofs.lemmas.Bool.{cases_lt}
 use std.Quotient.{cls}
-use Rattle.std.specs.Float.{round_to_format}
 use Rattle.exact.specs.Fraction.{Same, whole, absolute, apart, ◌≼◌}
 use Rattle.exact.proofs.Ring.{◌⊕◌, ◌⊗◌, norm}
 use Rattle.exact.proofs.Integer.{x₀, x₁}
 use Rattle.exact.proofs.Rational.{ℚ, is, ◌+q◌, ◌*q◌, -q◌, ◌-q◌, ofℤ, qring}
 use Rattle.exact.proofs.Order.{nn, ◌≤q◌, q_trans}
 use Rattle.exact.proofs.Bound.{ofℕ, nn_ofℕ, absq, bound_abs, Bound, bound_more, bound_turn, bound_via, bound_above, mul_right}
-use Rattle.exact.proofs.Compare.{whole_cls}
+use Rattle.exact.proofs.Compare.{whole_cls, dy}
 use Rattle.rounding.specs.Values.{value, sign}
 use Rattle.rounding.specs.Nearest.{limit}
-use Rattle.rounding.proofs.Fractions.{dy, frac, frac_le_out}
+use Rattle.rounding.proofs.Fractions.{frac, frac_le_out}
 use Rattle.rounding.proofs.Value.{val, val_value, value_is}
 use Rattle.rounding.proofs.Narrow.{unit_of}
 use Rattle.rounding.proofs.Limit.{limitℕ}
@@ -23,7 +23,8 @@ use Rattle.rounding.proofs.Distance.{same_number, apart_cls, abs_cls, abs_least,
 use Rattle.rounding.proofs.Held.{digits}
 use Rattle.rounding.proofs.Figure.{figure_nearest, figure_finite}
 use Rattle.rounding.proofs.Gaps.{Value, next_value}
-use Rattle.arithmetic.specs.Signs.{order, dist}
+use Rattle.rounding.proofs.NearestValue.{sign_of_value}
+use Rattle.arithmetic.specs.Signs.{dist}
 use Rattle.curves.proofs.Checked as Checked
 
 -- ---- 10 ^ n as an f32: 5 ^ n times 2 ^ n
@@ -55,11 +56,11 @@ few_units : (g : ℕ) → g ≤ 2 ^ 24 * unit_of binary32 g
 few_units g = le_trans (le_of_lt (size-lt g)) (le_trans (pow_mono {i = size g} {j = 24 + (size g - 24)} (omega arith)) (le_of_eq (pow-add 2 24 (size g - 24))))
 
 pub one_value : (g T : ℕ) → Value binary32 g → Value binary32 T → dist g T * 2 ^ 40 ≤ T → g ≡ T
-one_value g T vg vT h = elim (order g T) [
+one_value g T vg vT h = elim (cases_lt g T) [
   | inl l ↦ absurd (below g T (unit_of binary32 g) (pow_pos (size g - 24)) (next_value binary32 g T vg vT l) (few_units g) h)
-  | inr l ↦ elim (order T g) [
+  | inr l ↦ elim (cases_lt T g) [
     | inl m ↦ absurd (above g T (unit_of binary32 T) (pow_pos (size T - 24)) (next_value binary32 T g vT vg m) (few_units T) h)
-    | inr m ↦ same g T l m
+    | inr m ↦ omega arith
   ]
 ]
   where
@@ -69,23 +70,14 @@ one_value g T vg vT h = elim (order g T) [
     above : (g t u : ℕ) → 0 < u → t + u ≤ g → t ≤ 2 ^ 24 * u → dist g t * 2 ^ 40 ≤ t → ⊥
     above g t u p a b h = omega arith
 
-    same : (g t : ℕ) → t ≤ g → g ≤ t → g ≡ t
-    same g t l m = omega arith
-
 -- a number of g smallest values within 2 ^ -40 of 10 ^ n
 more_is : (N : ℕ) → ofℕ N +q dy 1 40 *q ofℕ N ≡ frac false (N * (2 ^ 40 + 1)) (2 ^ 40) (pow_pos 40)
 unfolding ◌+q◌ ◌*q◌ ofℕ ofℤ
-more_is N = is (ap pos (turn N))
-  where
-    turn : (N : ℕ) → (N * (2 ^ 40 * 1) + 1 * N * 1) * 2 ^ 40 ≡ N * (2 ^ 40 + 1) * (1 * (2 ^ 40 * 1))
-    turn N = omega arith
+more_is N = is (ap pos (omega arith))
 
 with_is : (g N : ℕ) → frac false g (2 ^ 149) (pow_pos 149) +q dy 1 40 *q ofℕ N ≡ frac false (g * 2 ^ 40 + N * 2 ^ 149) (2 ^ 189) (pow_pos 189)
 unfolding ◌+q◌ ◌*q◌ ofℕ ofℤ
-with_is g N = is (ap pos (turn g N))
-  where
-    turn : (g N : ℕ) → (g * (2 ^ 40 * 1) + 1 * N * 2 ^ 149) * 2 ^ 189 ≡ (g * 2 ^ 40 + N * 2 ^ 149) * (2 ^ 149 * (2 ^ 40 * 1))
-    turn g N = omega arith
+with_is g N = is (ap pos (omega arith))
 
 near_out : (g N : ℕ) → Bound (frac false g (2 ^ 149) (pow_pos 149) -q ofℕ N) (dy 1 40 *q ofℕ N) → dist g (N * 2 ^ 149) * 2 ^ 40 ≤ N * 2 ^ 149
 unfolding ofℕ ofℤ
@@ -96,11 +88,6 @@ near_out g N b =
     omega arith
 
 -- ---- the figure of z
-sign_is : (y : Float) (t : Bool) (g l : ℕ) → HasValue y t g l → sign y ≡ t
-sign_is nan t g l h = absurd h
-sign_is (inf s) t g l h = absurd h
-sign_is (fin s m e) t g l h = h.0
-
 pub ten_figure : (n : ℕ) → n ≤ 10 → (z : Float) → T (finite z) → (ofℕ (limitℕ binary32) ≤q absq (val z) → ⊥) → sign (round_to_format binary32 z) ≡ false → Bound (val z -q ofℕ (10 ^ n)) (dy 1 42 *q ofℕ (10 ^ n)) → T (finite (round_to_format binary32 z)) × Same (value (round_to_format binary32 z)) (whole (10 ^ n))
 unfolding norm ◌-q◌
 ten_figure n h z fz low plus b =
@@ -111,7 +98,7 @@ ten_figure n h z fz low plus b =
     let w = ten n in
     let d = digits binary32 y fy best.held.is_held in
     let g = d.q * 2 ^ d.j in
-    let s : d.s ≡ false = sym (sign_is y d.s g (2 ^ 149) d.how) ∙ plus in
+    let s : d.s ≡ false = sym (sign_of_value y d.s g (2 ^ 149) d.how) ∙ plus in
     let v : val y ≡ frac false g (2 ^ 149) (pow_pos 149) = value_is y d.s g (2 ^ 149) (pow_pos 149) d.how ∙ ap (λ (u : Bool). frac u g (2 ^ 149) (pow_pos 149)) s in
     let near : absq (val y -q val z) ≤q absq (val w -q val z) = nearer y w z (best.best w (record { is_finite = tt; is_held = ten_fits n h })) in
     let bw : Bound (val w -q val z) (dy 1 42 *q ofℕ N) = subst (λ (u : ℚ). Bound (u -q val z) (dy 1 42 *q ofℕ N)) (sym (ten_value n h)) (bound_turn (val z) (ofℕ N) b) in
@@ -136,13 +123,7 @@ ten_figure n h z fz low plus b =
         quarter = unfold nn ◌-q◌ ◌+q◌ -q◌ in record { le = tt }
 
     down_to : (N : ℕ) → frac false (N * 2 ^ 149) (2 ^ 149) (pow_pos 149) ≡ ofℕ N
-    down_to N = unfold ofℕ ofℤ in is (ap pos (one (N * 2 ^ 149)))
-      where
-        one : (m : ℕ) → m * 1 ≡ m
-        one m = omega arith
+    down_to N = unfold ofℕ ofℤ in is (ap pos (omega arith))
 
     ten_grains : (n : ℕ) → n ≤ 10 → Value binary32 (10 ^ n * 2 ^ 149)
-    ten_grains n h = record { q = 5 ^ n; j = n + 149; few = le_of_lt (five_lt n h); is_value = ap (λ (m : ℕ). m * 2 ^ 149) (sym (ten_is n h)) ∙ turn (5 ^ n) (2 ^ n) (2 ^ 149) ∙ ap (λ (m : ℕ). 5 ^ n * m) (sym (pow-add 2 n 149)) }
-      where
-        turn : (a b c : ℕ) → a * b * c ≡ a * (b * c)
-        turn a b c = omega arith
+    ten_grains n h = record { q = 5 ^ n; j = n + 149; few = le_of_lt (five_lt n h); is_value = ap (λ (m : ℕ). m * 2 ^ 149) (sym (ten_is n h)) ∙ omega arith ∙ ap (λ (m : ℕ). 5 ^ n * m) (sym (pow-add 2 n 149)) }

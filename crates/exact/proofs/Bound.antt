@@ -1,12 +1,5 @@
 -- |x| ≤ d for rationals, as two orders; how bounds go through sums and products; whole numbers and 1 / (k + 1) among the rationals.
-use mathlib.Core.Path.{◌≡◌, refl, ap, ◌∙◌, subst}
-use mathlib.Core.Bool.{Bool, true, false, not}
-use mathlib.Core.List.{[], ◌∷◌}
-use Prim.Native.Nat.{ℕ, suc, ◌+◌, ◌-◌, ◌≤◌}
-use native.Mathlib.Nat.{zero-lt-suc}
-use native.Mathlib.Omega.{arith}
-use lib.Dec.{T}
-use lib.IntN.{pos, negsuc}
+use Rattle.std.proofs.Common.{◌≡◌, refl, ap, ◌∙◌, subst, Bool, true, false, not, [], ◌∷◌, ℕ, suc, ◌+◌, ◌-◌, ◌≤◌, zero-lt-suc, arith, T, pos}
 use std.Quotient.{cls}
 use Rattle.exact.proofs.Ring.{con, ◌⊕◌, ◌⊖◌, ◌⊗◌, ⊝, norm}
 use Rattle.exact.proofs.Integer.{zring, x₀, x₁, x₂, x₃}
@@ -63,6 +56,10 @@ nn_half a t =
 pub record Bound (x d : ℚ) : Type 0 where
   pub hi : x ≤q d
   pub lo : -q◌ d ≤q x
+
+-- of known numbers, where both sides compute
+pub bound_is : {a b : ℚ} → T (nn (b -q a)) → T (nn (a -q (-q◌ b))) → Bound a b
+bound_is h l = record { hi = record { le = h }; lo = record { le = l } }
 
 pub bound_nn : {x d : ℚ} → Bound x d → T (nn d)
 unfolding norm ◌-q◌
@@ -153,10 +150,6 @@ le_plus a b t = le_by b t (qring (x₀ ⊕ x₁ ⊖ x₀) x₁ refl (a ∷ b ∷
 pub mul_one : (a : ℚ) → a *q ofℕ 1 ≡ a
 unfolding norm ofℕ
 mul_one a = qring (x₀ ⊗ con (pos 1)) x₀ refl (a ∷ [])
-
-pub less_than_itself : (x : ℚ) → x +q ofℕ 1 ≤q x → ⊥
-unfolding norm nn ◌-q◌ ofℕ ofℤ
-less_than_itself x h = subst (λ (y : ℚ). T (nn y)) (qring (x₀ ⊖ (x₀ ⊕ con (pos 1))) (con (negsuc 0)) refl (x ∷ [])) h.le
 
 -- ---- the absolute value
 abbrev pub pick : Bool → ℚ → ℚ

@@ -1,14 +1,8 @@
 -- Fractions and rationals: the operations and the order of the definitions are those of the rationals; a / c as a rational, and n / 2 ^ k.
-use mathlib.Core.Path.{◌≡◌, refl, sym, ap, ap₂, subst}
-use mathlib.Core.List.{[], ◌∷◌}
-use Prim.Native.Nat.{ℕ, suc, ◌+◌, ◌*◌, ◌^◌, ◌≤◌, ◌<◌}
-use native.Mathlib.Nat.{mul-le-mul_right}
-use native.Mathlib.Omega.{arith}
-use lib.Dec.{T, leb→le, le→leb}
-use lib.Pow.{pow_pos, pow-add, pow_mono}
-use lib.IntN.{ℤ, pos, negsuc, ◌+ℤ◌, ◌*ℤ◌, neg_ℤ, nat_abs}
-use lib.Signed.{le_z, non_neg}
-use borrow.Author.Differences.{ints, le_in, le_T, product_is, sum_is_lem, neg_is, not_negative_in, not_negative_out}
+use Rattle.std.proofs.Common.{◌≡◌, refl, sym, ap, ap₂, subst, [], ◌∷◌, ℕ, suc, ◌+◌, ◌*◌, ◌^◌, ◌≤◌, ◌<◌, mul-le-mul_right, arith, T, le→leb, pow_pos, pow-add, pow_mono, ℤ, pos, negsuc, ◌+ℤ◌, ◌*ℤ◌, neg_ℤ, nat_abs}
+use Rattle.std.specs.Int.Signed.{le_z, non_neg}
+use Rattle.std.proofs.lemmas.Int.{ints}
+use borrow.Author.Differences.{le_in, le_T, product_is, neg_is}
 use std.Quotient.{cls}
 use Rattle.exact.specs.Fraction.{Fraction, fraction, integer, whole, part, plus, times, opposite, absolute, difference, ◌≼◌}
 use Rattle.exact.proofs.Ring.{◌⊕◌, ◌⊗◌, ⊝, norm}
@@ -56,14 +50,14 @@ unfolding nn ◌-q◌ ◌+q◌ -q◌
 leq_in a b t =
     let x = a.num *ℤ pos b.den in
     let y = b.num *ℤ pos a.den in
-    record { le = subst (λ (z : ℤ). T (non_neg z)) (sym (minus_of a b)) (not_negative_in (y +ℤ neg_ℤ x) (omega (arith, sum_is_lem y (neg_ℤ x), neg_is x, le_T x y t))) }
+    record { le = subst (λ (z : ℤ). T (non_neg z)) (sym (minus_of a b)) (omega (arith, ints)) }
 
 pub leq_out : (a b : Fraction) → cls a ≤q cls b → T (le_z (a.num *ℤ pos b.den) (b.num *ℤ pos a.den))
 unfolding nn ◌-q◌ ◌+q◌ -q◌
 leq_out a b h =
     let x = a.num *ℤ pos b.den in
     let y = b.num *ℤ pos a.den in
-    le_in x y (omega (arith, sum_is_lem y (neg_ℤ x), neg_is x, not_negative_out (y +ℤ neg_ℤ x) (subst (λ (z : ℤ). T (non_neg z)) (minus_of a b) h.le)))
+    omega (arith, ints, subst (λ (z : ℤ). T (non_neg z)) (minus_of a b) h.le)
 
 pub below_in : {a b : Fraction} {x y : ℚ} → cls a ≡ x → cls b ≡ y → a ≼ b → x ≤q y
 below_in {a} {b} {x} {y} e f h = subst (λ (u : ℚ). u ≤q y) e (subst (λ (v : ℚ). cls a ≤q v) f (leq_in a b h.le))
@@ -80,8 +74,8 @@ unfolding -q◌
 bound_abs z =
     let p = z.num in
     record {
-      hi = leq_in _ _ (scale_le p (pos (nat_abs p)) z.den (le_in p (pos (nat_abs p)) (omega (arith, ints))));
-      lo = leq_in _ _ (scale_le (neg_ℤ (pos (nat_abs p))) p z.den (le_in (neg_ℤ (pos (nat_abs p))) p (omega (arith, ints))));
+      hi = leq_in _ _ (scale_le p (pos (nat_abs p)) z.den (omega (arith, ints)));
+      lo = leq_in _ _ (scale_le (neg_ℤ (pos (nat_abs p))) p z.den (omega (arith, ints)));
     }
 
 pub abs_nn : (z : Fraction) → T (nn (cls (absolute z)))
@@ -142,9 +136,6 @@ fr_den z w c d C D e f = is (ap₂ (λ (x : ℤ) (k : ℕ). x *ℤ pos k) e (sym
 pub fr_le : (a c b d : ℕ) (C : 0 < c) (D : 0 < d) → a * d ≤ b * c → fr (pos a) c C ≤q fr (pos b) d D
 fr_le a c b d C D h = leq_in _ _ (le→leb (a * d) (b * c) h)
 
-pub fr_le_out : (a c b d : ℕ) (C : 0 < c) (D : 0 < d) → fr (pos a) c C ≤q fr (pos b) d D → a * d ≤ b * c
-fr_le_out a c b d C D h = leb→le (a * d) (b * c) (leq_out _ _ h)
-
 pub nn_fr : (a c : ℕ) (C : 0 < c) → T (nn (fr (pos a) c C))
 unfolding nn
 nn_fr a c C = tt
@@ -163,17 +154,11 @@ unfolding nn
 nn_dy n k = tt
 
 pub dy_mono : (k m : ℕ) → k ≤ m → dy 1 m ≤q dy 1 k
-dy_mono k m h = fr_le 1 (2 ^ m) 1 (2 ^ k) (pow_pos m) (pow_pos k) (go (2 ^ k) (2 ^ m) (pow_mono h))
-  where
-    go : (a b : ℕ) → a ≤ b → 1 * a ≤ 1 * b
-    go a b h = omega arith
+dy_mono k m h = fr_le 1 (2 ^ m) 1 (2 ^ k) (pow_pos m) (pow_pos k) (omega (arith, pow_mono h))
 
 pub dy_add : (a b : ℕ) → dy 1 (a + b) ≡ dy 1 a *q dy 1 b
 unfolding ◌*q◌
-dy_add a b = is (ap pos (go (2 ^ a) (2 ^ b) (2 ^ (a + b)) (pow-add 2 a b)))
-  where
-    go : (x y z : ℕ) → z ≡ x * y → 1 * (x * y) ≡ 1 * z
-    go x y z e = omega arith
+dy_add a b = is (ap pos (omega (arith, pow-add 2 a b)))
 
 -- ---- 1 / (k + 1)
 pub inv_mono : (m k : ℕ) → m ≤ k → inv k ≤q inv m

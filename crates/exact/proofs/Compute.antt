@@ -1,14 +1,8 @@
 -- The sum at p / q as one fraction, computed in one pass, and what one test at one n says of every sum from there on.
-use mathlib.Core.Path.{◌≡◌, refl, sym, ap, ap₂, ◌∙◌, subst}
-use mathlib.Core.Bool.{Bool}
-use mathlib.Core.List.{[], ◌∷◌}
-use Prim.Native.Nat.{ℕ, zero, suc, ◌+◌, ◌*◌, ◌≤◌, ◌<◌}
-use native.Mathlib.Nat.{zero-lt-suc, mul-pos, le-suc, mul-le-mul_right}
-use native.Mathlib.Omega.{arith}
-use lib.Dec.{T, leb, leb→le, le→leb}
-use lib.IntN.{ℤ, pos, negsuc, ◌+ℤ◌, ◌-ℤ◌, ◌*ℤ◌, neg_ℤ, nat_abs}
-use lib.Signed.{le_z}
-use borrow.Author.Differences.{ints, le_in}
+use Rattle.std.proofs.Common.{◌≡◌, refl, sym, ap, ap₂, ◌∙◌, subst, Bool, [], ◌∷◌, ℕ, zero, suc, ◌+◌, ◌*◌, ◌≤◌, ◌<◌, zero-lt-suc, mul-pos, mul-le-mul_right, arith, T, leb, leb→le, le→leb, ℤ, pos, ◌+ℤ◌, ◌-ℤ◌, ◌*ℤ◌, neg_ℤ, nat_abs}
+use Rattle.std.specs.Int.Signed.{le_z}
+use Rattle.std.proofs.Math.Nat.{le-suc}
+use Rattle.std.proofs.lemmas.Int.{ints, unsigned_abs-mul}
 use std.Quotient.{cls}
 use Rattle.exact.proofs.Ring.{con, ◌⊕◌, ◌⊖◌, ◌⊗◌, ⊝, norm}
 use Rattle.exact.proofs.Integer.{zring, x₀, x₁, x₂, x₃, x₄}
@@ -68,17 +62,6 @@ unfoldable pub test : ℕ → ℕ → ℕ → State → Bool
 test l y u s = leb (nat_abs (pos (y * s.den) -ℤ s.num *ℤ pos l) + nat_abs s.pow * l) (u * s.den)
 
 -- ---- the size of the last term
-nat_abs_neg : (z : ℤ) → nat_abs (neg_ℤ z) ≡ nat_abs z
-nat_abs_neg (pos zero) = refl
-nat_abs_neg (pos (suc n)) = refl
-nat_abs_neg (negsuc n) = refl
-
-nat_abs_mul : (x y : ℤ) → nat_abs (x *ℤ y) ≡ nat_abs x * nat_abs y
-nat_abs_mul (pos a) (pos b) = refl
-nat_abs_mul (pos a) (negsuc b) = nat_abs_neg (pos (a * suc b))
-nat_abs_mul (negsuc a) (pos b) = nat_abs_neg (pos (suc a * b))
-nat_abs_mul (negsuc a) (negsuc b) = refl
-
 run_den : (p r : ℤ) (q n : ℕ) → (run p q n).den ≡ (run r q n).den
 unfolding run
 run_den p r q zero = refl
@@ -87,14 +70,14 @@ run_den p r q (suc n) = ap (λ (d : ℕ). d * (q * suc n)) (run_den p r q n)
 run_abs : (p : ℤ) (q n : ℕ) → (run (pos (nat_abs p)) q n).pow ≡ pos (nat_abs (run p q n).pow)
 unfolding run
 run_abs p q zero = refl
-run_abs p q (suc n) = ap (λ (z : ℤ). z *ℤ pos (nat_abs p)) (run_abs p q n) ∙ ap pos (sym (nat_abs_mul (run p q n).pow p))
+run_abs p q (suc n) = ap (λ (z : ℤ). z *ℤ pos (nat_abs p)) (run_abs p q n) ∙ ap pos (sym (unsigned_abs-mul (run p q n).pow p))
 
 -- ---- the test, as two orders
 above : (x n : ℤ) (c e : ℕ) → nat_abs (x -ℤ n) + c ≤ e → T (le_z (x +ℤ pos c) (pos e +ℤ n))
-above x n c e h = le_in (x +ℤ pos c) (pos e +ℤ n) (omega (arith, ints))
+above x n c e h = omega (arith, ints)
 
 below : (x n : ℤ) (c e : ℕ) → nat_abs (x -ℤ n) + c ≤ e → T (le_z (neg_ℤ x +ℤ pos c) (pos e +ℤ neg_ℤ n))
-below x n c e h = le_in (neg_ℤ x +ℤ pos c) (pos e +ℤ neg_ℤ n) (omega (arith, ints))
+below x n c e h = omega (arith, ints)
 
 -- n is at least twice |p / q|
 twice : (p : ℤ) (q n : ℕ) (Q : 0 < q) → 2 * nat_abs p ≤ n * q → fr (pos (nat_abs p)) q Q +q fr (pos (nat_abs p)) q Q ≤q ofℕ n

@@ -1,10 +1,6 @@
 -- Fractions that are the same number: symmetric, transitive, and kept by sums.
-use mathlib.Core.Path.{◌≡◌, refl, sym, ap, ◌∙◌}
-use mathlib.Core.List.{[], ◌∷◌}
-use Prim.Native.Nat.{ℕ, ◌+◌, ◌<◌}
-use native.Mathlib.Nat.{eq_of_mul-eq-mul_right}
-use native.Mathlib.Omega.{arith}
-use lib.IntN.{ℤ, pos, ◌*ℤ◌}
+use Rattle.std.proofs.Common.{◌≡◌, refl, sym, ap, ◌∙◌, [], ◌∷◌, ℕ, ◌+◌, ◌<◌, arith, ℤ, pos, ◌*ℤ◌}
+use Rattle.std.proofs.Math.Nat.{eq_of_mul-eq-mul_right}
 use borrow.Author.Differences.{up, down, same_in, same_out, product_is}
 use Rattle.exact.specs.Fraction.{Fraction, Same, plus}
 use Rattle.exact.proofs.Ring.{◌⊗◌, norm}
@@ -18,9 +14,6 @@ cancel x y c p e =
     let q = product_is x (pos c) in
     let r = product_is y (pos c) in
     same_in x y (eq_of_mul-eq-mul_right c p (up x + down y) (up y + down x) (omega (arith, h, q, r)))
-
-pub same_refl : (a : Fraction) → Same a a
-same_refl a = refl
 
 pub same_sym : (a b : Fraction) → Same a b → Same b a
 same_sym a b e = sym e

@@ -1,10 +1,8 @@
 -- The integers as a commutative ring, and `zring`, which proves an equation of polynomials over them.
-use mathlib.Core.Path.{◌≡◌, refl, ap}
-use mathlib.Core.List.{List}
-use Prim.Native.Nat.{ℕ, ◌+◌, ◌*◌}
-use native.Mathlib.Omega.{arith}
-use lib.IntN.{ℤ, pos, ◌+ℤ◌, ◌*ℤ◌, neg_ℤ, +ℤ_assoc, +ℤ_comm, +ℤ_idr, +ℤ_invr, *ℤ_comm}
-use borrow.Author.Differences.{ints, up, down, same_in, product_is, sum_is_lem}
+use Rattle.std.proofs.Common.{◌≡◌, refl, ap, List, ℕ, ◌+◌, ◌*◌, arith, ℤ, pos, ◌+ℤ◌, ◌*ℤ◌, neg_ℤ}
+use Rattle.std.proofs.Math.IntN.{+ℤ_assoc, +ℤ_comm, +ℤ_idr, +ℤ_invr, *ℤ_comm}
+use Rattle.std.proofs.lemmas.Int.{ints}
+use borrow.Author.Differences.{up, down, same_in, product_is, sum_is_lem}
 use Rattle.exact.proofs.Ring.{CRing, Expr, var, norm, ⟦◌⟧, solve}
 
 up_mul : (a b : ℤ) → up (a *ℤ b) ≡ up a * up b + down a * down b

@@ -1,10 +1,6 @@
 -- The laws of the exact value: what is said of one value fits together, for all four functions.
-use mathlib.Core.Path.{◌≡◌, refl, sym, ap, ap₂, ◌∙◌, subst}
-use mathlib.Core.List.{[], ◌∷◌}
-use Prim.Native.Nat.{ℕ, suc, ◌*◌, ◌≤◌}
-use native.Mathlib.Nat.{zero-lt-suc, le_trans, le_refl, le-suc}
-use lib.Dec.{T}
-use lib.IntN.{pos}
+use Rattle.std.proofs.Common.{◌≡◌, refl, sym, ap, ap₂, ◌∙◌, subst, [], ◌∷◌, ℕ, suc, ◌*◌, ◌≤◌, zero-lt-suc, le_trans, le_refl, T, pos}
+use Rattle.std.proofs.Math.Nat.{le-suc}
 use std.Quotient.{cls}
 use Rattle.exact.specs.Fraction.{Fraction, whole, plus, times, absolute, difference, ◌≼◌}
 use Rattle.exact.proofs.Ring.{con, ◌⊕◌, ◌⊖◌, ◌⊗◌, ⊝, norm}

@@ -1,14 +1,11 @@
 -- What is at most b + c / (d + 1) for every d is at most b; a whole number above each fraction.
-use mathlib.Core.Path.{refl, subst}
-use mathlib.Core.List.{[], ◌∷◌}
-use Prim.Native.Nat.{ℕ, zero, suc, ◌*◌, ◌≤◌}
-use native.Mathlib.Nat.{zero-lt-suc, le-suc, mul-le-mul_right, mul-le-mul_left}
-use native.Mathlib.Omega.{arith}
-use lib.Dec.{T, le→leb, T_prop}
-use lib.IntN.{ℤ, pos, negsuc, ◌+ℤ◌, ◌*ℤ◌, nat_abs}
-use lib.Signed.{le_z, non_neg}
-use borrow.Author.Differences.{le_in, product_is, sum_is_lem, not_negative_out}
+use Rattle.std.proofs.Common.{refl, subst, [], ◌∷◌, ℕ, zero, suc, ◌*◌, ◌≤◌, zero-lt-suc, mul-le-mul_right, mul-le-mul_left, arith, T, le→leb, ℤ, pos, negsuc, ◌+ℤ◌, ◌*ℤ◌, nat_abs}
+use Rattle.std.specs.Int.Signed.{le_z, non_neg}
+use Rattle.std.proofs.Math.Nat.{le-suc}
+use Rattle.std.proofs.Math.Dec.{T_prop}
+use Rattle.std.proofs.lemmas.Int.{ints}
 use std.Quotient.{cls, /_elim_prop}
+use mathlib.Core.HLevel.{Π_prop}
 use Rattle.exact.specs.Fraction.{Fraction, whole, ◌≼◌}
 use Rattle.exact.proofs.Ring.{◌⊕◌, ◌⊖◌, norm}
 use Rattle.exact.proofs.Integer.{x₀, x₁, x₂}
@@ -16,7 +13,6 @@ use Rattle.exact.proofs.Rational.{ℚ, ◌+q◌, ◌*q◌, -q◌, ◌-q◌, of�
 use Rattle.exact.proofs.Order.{nn, ◌≤q◌, q_refl, q_trans, q_add}
 use Rattle.exact.proofs.Bound.{ofℕ, inv}
 use Rattle.exact.proofs.Compare.{leq_in, bound_abs}
-use mathlib.Core.HLevel.{Π_prop}
 
 nn_limit : (q : ℚ) → ((d : ℕ) → T (nn (q +q inv d))) → T (nn q)
 unfolding nn ◌+q◌ inv
@@ -28,7 +24,7 @@ nn_limit = /_elim_prop (λ q. ((d : ℕ) → T (nn (q +q inv d))) → T (nn q)) 
         let x = negsuc n *ℤ pos (suc c) in
         let y = pos 1 *ℤ pos c in
         let k : 1 * suc c ≤ suc n * suc c = mul-le-mul_right (suc c) (zero-lt-suc n) in
-        absurd (omega (arith, not_negative_out (x +ℤ y) t, sum_is_lem x y, product_is (negsuc n) (pos (suc c)), product_is (pos 1) (pos c), k))
+        absurd (omega (arith, ints))
 
 -- c parts of 1 / (m + 1) are at most 1 / (e + 1), where m is large enough
 pub over : (c m e : ℕ) → c * suc e ≤ suc m → ofℕ c *q inv m ≤q inv e
@@ -54,6 +50,6 @@ unfolding inv
 some_part e h = leq_in _ _ (go e.num e.den (λ t. h (record { le = t })))
   where
     go : (n : ℤ) (d : ℕ) → (T (le_z (n *ℤ pos 1) (pos 0 *ℤ pos d)) → ⊥) → T (le_z (pos 1 *ℤ pos d) (n *ℤ pos (suc d)))
-    go (pos zero) d h = absurd (h (le_in (pos 0 *ℤ pos 1) (pos 0 *ℤ pos d) (omega arith)))
+    go (pos zero) d h = absurd (h (omega (arith, ints)))
     go (pos (suc n)) d h = le→leb (1 * d) (suc n * suc d) (let k : 1 * suc d ≤ suc n * suc d = mul-le-mul_right (suc d) (zero-lt-suc n) in omega arith)
-    go (negsuc n) d h = absurd (h (le_in (negsuc n *ℤ pos 1) (pos 0 *ℤ pos d) (omega (arith, product_is (negsuc n) (pos 1), product_is (pos 0) (pos d)))))
+    go (negsuc n) d h = absurd (h (omega (arith, ints)))

@@ -1,11 +1,6 @@
 -- The brackets of ln 2 and ln 10: each holds the later ones, all lie between 0 and 3, and those from 80 on are near one fraction of 96 binary places.
-use mathlib.Core.Path.{◌≡◌, refl, ap, ap₂, ◌∙◌, subst}
-use mathlib.Core.List.{[], ◌∷◌}
-use Prim.Native.Nat.{ℕ, zero, suc, ◌^◌, ◌≤◌}
-use native.Mathlib.Nat.{le_trans, le-suc}
-use lib.Dec.{T, lit≤}
-use lib.Pow.{pow_pos}
-use lib.IntN.{pos}
+use Rattle.std.proofs.Common.{◌≡◌, refl, ap, ap₂, ◌∙◌, subst, [], ◌∷◌, ℕ, zero, suc, ◌^◌, ◌≤◌, le_trans, T, lit≤, pow_pos, pos}
+use Rattle.std.proofs.Math.Nat.{le-suc}
 use std.Quotient.{cls}
 use Rattle.exact.specs.Fraction.{Fraction, whole, part, plus, times}
 use Rattle.exact.proofs.Ring.{con, ◌⊕◌, ◌⊗◌, norm}

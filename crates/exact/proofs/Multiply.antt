@@ -1,11 +1,5 @@
 -- e ^ (a + b) is e ^ a times e ^ b: fractions near the two have their product near the third.
-use mathlib.Core.Path.{◌≡◌, refl, sym, ap, ap₂, ◌∙◌, subst}
-use mathlib.Core.List.{[], ◌∷◌}
-use Prim.Native.Nat.{ℕ, ◌≤◌}
-use native.Mathlib.Nat.{le_trans, le_refl}
-use native.Mathlib.Omega.{arith}
-use lib.Dec.{T}
-use lib.IntN.{pos}
+use Rattle.std.proofs.Common.{◌≡◌, refl, sym, ap, ap₂, ◌∙◌, subst, [], ◌∷◌, ℕ, ◌≤◌, le_trans, le_refl, arith, T, pos}
 use std.Quotient.{cls}
 use Rattle.exact.specs.Fraction.{Fraction, whole, plus, times, absolute}
 use Rattle.exact.proofs.Ring.{con, ◌⊕◌, ◌⊖◌, ◌⊗◌, ⊝, norm}
@@ -81,13 +75,10 @@ within_nn y d t h = le_nn (squeeze 1 (ofℤ (pos 0)) (cls d) (λ i.
     one_times u = unfold ofℕ in qring x₀ (con (pos 1) ⊗ x₀) refl (u ∷ [])
 
 part_le : (i : ℕ) → inv i ≤q ofℕ 1
-part_le i = subst (λ (u : ℚ). inv i ≤q u) one (inv_mono 0 i (zero_le i))
+part_le i = subst (λ (u : ℚ). inv i ≤q u) one (inv_mono 0 i (omega arith))
   where
     one : inv 0 ≡ ofℕ 1
     one = unfold inv ofℕ ofℤ in refl
-
-    zero_le : (i : ℕ) → 0 ≤ i
-    zero_le i = omega arith
 
 gathered : (W Y Z D E i : ℚ) → W +q (Y +q Z +q D +q E +q ofℕ 1) *q i +q i ≤q W +q (Y +q Z +q D +q E +q ofℕ 2) *q i
 unfolding norm ofℕ

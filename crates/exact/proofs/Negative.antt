@@ -1,11 +1,5 @@
 -- The sums at a negative argument, against those at its opposite.
-use mathlib.Core.Path.{refl, sym, ap, ◌∙◌, subst}
-use mathlib.Core.Bool.{Bool, true, false, not}
-use mathlib.Core.List.{[], ◌∷◌}
-use Prim.Native.Nat.{ℕ, suc, ◌≤◌}
-use native.Mathlib.Nat.{le_trans}
-use lib.Dec.{T}
-use lib.IntN.{pos}
+use Rattle.std.proofs.Common.{refl, sym, ap, ◌∙◌, subst, Bool, true, false, not, [], ◌∷◌, ℕ, suc, ◌≤◌, le_trans, T, pos}
 use std.Quotient.{cls}
 use Rattle.exact.specs.Fraction.{Fraction, plus}
 use Rattle.exact.proofs.Ring.{con, ◌⊕◌, ◌⊖◌, ◌⊗◌, ⊝, norm}

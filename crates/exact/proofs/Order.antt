@@ -1,16 +1,11 @@
 -- The order of the rationals.
-use mathlib.Core.Path.{◌≡◌, refl, sym, ap, ◌∙◌, subst}
-use mathlib.Core.Bool.{Bool, true, false, not, Bool-set}
-use mathlib.Core.List.{[], ◌∷◌}
-use mathlib.Core.Logic.{inl, inr, ◌⊎◌}
+use Rattle.std.proofs.Common.{◌≡◌, refl, sym, ap, ◌∙◌, subst, Bool, true, false, not, [], ◌∷◌, inl, inr, ◌⊎◌, zero, suc, ◌*◌, ◌≤◌, mul-le-mul_right, le_of_mul-le-mul_right, arith, T, ℤ, pos, negsuc, ◌+ℤ◌, ◌*ℤ◌, neg_ℤ}
+use Rattle.std.specs.Int.Signed.{non_neg}
+use Rattle.std.proofs.Math.Bool.{Bool-set}
+use Rattle.std.proofs.Math.Dec.{T_prop}
+use Rattle.std.proofs.lemmas.Int.{ints}
 use mathlib.Core.HLevel.{Π_prop}
-use Prim.Native.Nat.{zero, suc, ◌*◌, ◌≤◌}
-use native.Mathlib.Nat.{mul-le-mul_right, le_of_mul-le-mul_right}
-use native.Mathlib.Omega.{arith}
-use lib.Dec.{T, T_prop}
-use lib.IntN.{ℤ, pos, negsuc, ◌+ℤ◌, ◌*ℤ◌, neg_ℤ}
-use lib.Signed.{non_neg}
-use borrow.Author.Differences.{up, down, same_out, product_is, sum_is_lem, not_negative_in, not_negative_out}
+use borrow.Author.Differences.{up, down, same_out, product_is, not_negative_in, not_negative_out}
 use std.Quotient.{/_set, /_rec, /_elim_prop, /_elim_prop₂}
 use Rattle.exact.proofs.Ring.{con, ◌⊕◌, ◌⊖◌, ◌⊗◌, ⊝, norm}
 use Rattle.exact.proofs.Integer.{zring, x₀, x₁, x₂, x₃}
@@ -51,7 +46,7 @@ nn_add = /_elim_prop₂ (λ a b. T (nn a) → T (nn b) → T (nn (a +q b))) (λ 
         let y = b.num *ℤ pos a.den in
         let u : down a.num * b.den ≤ up a.num * b.den = mul-le-mul_right b.den (not_negative_out a.num s) in
         let v : down b.num * a.den ≤ up b.num * a.den = mul-le-mul_right a.den (not_negative_out b.num t) in
-        not_negative_in (x +ℤ y) (omega (arith, sum_is_lem x y, product_is a.num (pos b.den), product_is b.num (pos a.den), u, v))
+        omega (arith, ints, u, v)
 
 nn_mulℤ : (a b : ℤ) → T (non_neg a) → T (non_neg b) → T (non_neg (a *ℤ b))
 nn_mulℤ (pos a) (pos b) s t = tt

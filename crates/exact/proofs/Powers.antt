@@ -1,18 +1,12 @@
 -- Whole powers by the series: where the sums at b are near β, those at k b are near β ^ k. With ln 2 and ln 10 for b, of either sign, β is 2 and 10, 1/2 and 1/10.
-use mathlib.Core.Path.{◌≡◌, refl, sym, ap, ap₂, ◌∙◌, subst}
-use mathlib.Core.List.{[], ◌∷◌}
-use Prim.Native.Nat.{ℕ, zero, suc, ◌+◌, ◌-◌, ◌*◌, ◌^◌, ◌≤◌, ◌<◌}
-use native.Mathlib.Nat.{le_trans, le_of_suc-le, pow-suc, pow-zero}
-use native.Mathlib.Omega.{arith}
-use lib.Dec.{T, lit≤}
-use lib.Pow.{pow_pos, pow-add, pow_mono}
-use lib.IntN.{ℤ, pos, negsuc, neg_ℤ, nat_abs}
+use Rattle.std.proofs.Common.{◌≡◌, refl, sym, ap, ap₂, ◌∙◌, subst, [], ◌∷◌, ℕ, zero, suc, ◌+◌, ◌-◌, ◌*◌, ◌^◌, ◌≤◌, ◌<◌, le_trans, pow-suc, arith, T, lit≤, pow_pos, pow-add, pow_mono, ℤ, pos, negsuc, neg_ℤ, nat_abs, zero-mul}
+use Rattle.std.proofs.Math.Nat.{le_of_suc-le, pow-zero}
 use Rattle.exact.specs.Fraction.{integer}
 use Rattle.exact.proofs.Ring.{con, ◌⊕◌, ◌⊖◌, ◌⊗◌, ⊝, norm}
 use Rattle.exact.proofs.Integer.{x₀, x₁, x₂, x₃}
 use Rattle.exact.proofs.Rational.{ℚ, is, ◌+q◌, ◌*q◌, -q◌, ◌-q◌, ofℤ, qring}
 use Rattle.exact.proofs.Order.{nn, nn_add, nn_mul, ◌≤q◌, q_refl, q_trans, q_add, q_mul}
-use Rattle.exact.proofs.Bound.{ofℕ, inv, nn_ofℕ, ofℕ_add, ofℕ_mono, nn_le, le_nn, Bound, bound_more, bound_add, bound_neg, bound_mul, bound_self, bound_turn, mul_right, mul_mono}
+use Rattle.exact.proofs.Bound.{ofℕ, inv, nn_ofℕ, ofℕ_add, ofℕ_mono, nn_le, le_nn, Bound, bound_more, bound_add, bound_neg, bound_mul, bound_self, bound_turn, mul_right, mul_mono, bound_is}
 use Rattle.exact.proofs.Compare.{bound_abs, fr, dy, nn_dy, dy_mono, dy_add}
 use Rattle.exact.specs.Logarithm.{Base, binary, decimal, radix}
 use Rattle.exact.proofs.Relative.{Rel, rel_mul, rel_more}
@@ -29,25 +23,19 @@ unfolding ofℕ ofℤ ◌*q◌
 ofℕ_mul u v = is refl
 
 -- ---- the size of a power
-zero_mul : (w : ℕ) → 0 ≡ 0 * w
-zero_mul w = omega arith
-
-suc_mul : (k w : ℕ) → suc k * w ≡ k * w + w
-suc_mul k w = omega arith
-
 module _ (β : ℚ) (w : ℕ) where
   pow_low : dy 1 w ≤q β → (k : ℕ) → dy 1 (k * w) ≤q pow β k
   unfolding pow
-  pow_low h zero = subst (λ (m : ℕ). dy 1 m ≤q ofℕ 1) (zero_mul w) unit
+  pow_low h zero = subst (λ (m : ℕ). dy 1 m ≤q ofℕ 1) (sym (zero-mul w)) unit
     where
       unit : dy 1 0 ≤q ofℕ 1
       unit = unfold nn ◌-q◌ ◌+q◌ -q◌ ofℕ ofℤ in record { le = tt }
-  pow_low h (suc k) = subst (λ (x : ℚ). x ≤q pow β k *q β) (sym (ap (λ (m : ℕ). dy 1 m) (suc_mul k w) ∙ dy_add (k * w) w)) (mul_mono (nn_dy 1 (k * w)) (nn_dy 1 w) (pow_low h k) h)
+  pow_low h (suc k) = subst (λ (x : ℚ). x ≤q pow β k *q β) (sym (ap (λ (m : ℕ). dy 1 m) (omega arith) ∙ dy_add (k * w) w)) (mul_mono (nn_dy 1 (k * w)) (nn_dy 1 w) (pow_low h k) h)
 
   pow_high : T (nn β) → β ≤q ofℕ (2 ^ w) → (k : ℕ) → pow β k ≤q ofℕ (2 ^ (k * w))
   unfolding pow
-  pow_high n h zero = subst (λ (m : ℕ). ofℕ 1 ≤q ofℕ (2 ^ m)) (zero_mul w) (q_refl (ofℕ 1))
-  pow_high n h (suc k) = subst (λ (x : ℚ). pow β k *q β ≤q x) (ofℕ_mul (2 ^ (k * w)) (2 ^ w) ∙ ap ofℕ (sym (pow-add 2 (k * w) w) ∙ ap (λ (m : ℕ). 2 ^ m) (sym (suc_mul k w)))) (mul_mono (pow_nn β n k) n (pow_high n h k) h)
+  pow_high n h zero = subst (λ (m : ℕ). ofℕ 1 ≤q ofℕ (2 ^ m)) (sym (zero-mul w)) (q_refl (ofℕ 1))
+  pow_high n h (suc k) = subst (λ (x : ℚ). pow β k *q β ≤q x) (ofℕ_mul (2 ^ (k * w)) (2 ^ w) ∙ ap ofℕ (sym (pow-add 2 (k * w) w) ∙ ap (λ (m : ℕ). 2 ^ m) (sym (omega arith)))) (mul_mono (pow_nn β n k) n (pow_high n h k) h)
 
 -- ---- k times the argument
 ofℕ_suc : (k : ℕ) → ofℕ (suc k) ≡ ofℕ k +q ofℕ 1
@@ -173,8 +161,8 @@ bits decimal = 4
 
 size_nums : (b : Base) → Bound (root b) (ofℕ (high b)) × (dy 1 (bits b) ≤q ofℕ (radix b)) × (dy 1 (bits b) ≤q inverse b) × (ofℕ (radix b) ≤q ofℕ (2 ^ bits b)) × (inverse b ≤q ofℕ (2 ^ bits b))
 unfolding nn ◌-q◌ ◌+q◌ -q◌ ofℕ ofℤ inv
-size_nums binary = (record { hi = record { le = tt }; lo = record { le = tt } }, record { le = tt }, record { le = tt }, record { le = tt }, record { le = tt })
-size_nums decimal = (record { hi = record { le = tt }; lo = record { le = tt } }, record { le = tt }, record { le = tt }, record { le = tt }, record { le = tt })
+size_nums binary = (bound_is tt tt, record { le = tt }, record { le = tt }, record { le = tt }, record { le = tt })
+size_nums decimal = (bound_is tt tt, record { le = tt }, record { le = tt }, record { le = tt }, record { le = tt })
 
 fits : (b : Base) (k : ℕ) → k ≤ most b → (k ≤ 200) × (k * bits b ≤ 240) × (k * high b ≤ 200)
 fits binary k h = (h, omega arith, omega arith)
@@ -247,10 +235,7 @@ pow_half zero = unit
   where
     unit : ofℕ 1 ≡ dy 1 0
     unit = unfold ofℕ ofℤ in is refl
-pow_half (suc k) = ap₂ (λ (x y : ℚ). x *q y) (pow_half k) half ∙ sym (ap (λ (m : ℕ). dy 1 m) (add_one k) ∙ dy_add k 1)
+pow_half (suc k) = ap₂ (λ (x y : ℚ). x *q y) (pow_half k) half ∙ sym (ap (λ (m : ℕ). dy 1 m) (omega arith) ∙ dy_add k 1)
   where
     half : inv 1 ≡ dy 1 1
     half = unfold inv in is refl
-
-    add_one : (k : ℕ) → suc k ≡ k + 1
-    add_one k = omega arith

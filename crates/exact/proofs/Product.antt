@@ -1,15 +1,10 @@
 -- The product of two sums of the exponential series is the sum at the sum of the arguments, up to what R bounds.
-use mathlib.Core.Path.{◌≡◌, refl, sym, ap, ◌∙◌, subst}
-use mathlib.Core.List.{[], ◌∷◌}
-use Prim.Native.Nat.{ℕ, zero, suc}
-use native.Mathlib.Numerals.{one-add}
-use lib.Dec.{T}
-use lib.IntN.{pos}
+use Rattle.std.proofs.Common.{◌≡◌, refl, sym, ap, ◌∙◌, subst, [], ◌∷◌, ℕ, zero, suc, one-add, T, pos}
 use Rattle.exact.proofs.Ring.{Expr, con, ◌⊕◌, ◌⊖◌, ◌⊗◌, norm}
 use Rattle.exact.proofs.Integer.{x₀, x₁, x₂, x₃, x₄, x₅, x₆, x₇, x₈}
 use Rattle.exact.proofs.Rational.{ℚ, ◌+q◌, ◌*q◌, -q◌, ◌-q◌, ofℤ, qring}
-use Rattle.exact.proofs.Order.{nn, nn_add, nn_mul, ◌≤q◌, le_by, q_refl, q_trans, q_add, q_mul}
-use Rattle.exact.proofs.Bound.{ofℕ, inv, inv_mul, nn_ofℕ, ofℕ_add, Bound, bound_nn, bound_more, bound_add, bound_mul, bound_self}
+use Rattle.exact.proofs.Order.{nn, nn_add, nn_mul, ◌≤q◌, q_refl, q_trans, q_add, q_mul}
+use Rattle.exact.proofs.Bound.{ofℕ, inv, inv_mul, nn_ofℕ, ofℕ_add, Bound, bound_nn, bound_more, bound_add, bound_mul, bound_self, le_plus}
 use Rattle.exact.proofs.Series.{term, S, R, term_nn, term_bound, from, tail}
 
 -- the number 1
@@ -140,24 +135,20 @@ module _ (a b A B : ℚ) (ha : Bound a A) (hb : Bound b B) where
       (bound_add ih (bound_mul t d)))
 
 module _ (A B : ℚ) (na : T (nn A)) (nb : T (nn B)) where
-  grow : (x y : ℚ) → T (nn y) → x ≤q x +q y
-  unfolding norm ◌-q◌
-  grow x y t = le_by y t (qring (x₀ ⊕ x₁ ⊖ x₀) x₁ refl (x ∷ y ∷ []))
-
-  -- the triangle of side n triangle-holds the rectangle n by m, and longer ones hold more
+  -- the triangle of side n holds the rectangle n by m, and longer ones hold more
   triangle_holds : (n m : ℕ) → S A n *q S B m ≤q triangle A B n m
   unfolding norm S term
   triangle_holds zero m = q_refl (ofℕ 1 *q S B m)
   triangle_holds (suc n) m =
       subst (λ (x : ℚ). x ≤q triangle A B n (suc m) +q term A (suc n) *q S B m) (qring (x₀ ⊗ x₂ ⊕ x₁ ⊗ x₂) ((x₀ ⊕ x₁) ⊗ x₂) refl (S A n ∷ term A (suc n) ∷ S B m ∷ []))
-      (q_add (q_trans (q_mul (S A n) (S_nn A na n) (grow (S B m) (term B (suc m)) (term_nn B nb (suc m)))) (triangle_holds n (suc m))) (q_refl (term A (suc n) *q S B m)))
+      (q_add (q_trans (q_mul (S A n) (S_nn A na n) (le_plus (S B m) (term B (suc m)) (term_nn B nb (suc m)))) (triangle_holds n (suc m))) (q_refl (term A (suc n) *q S B m)))
 
   triangle_holds_more : (n m j : ℕ) → S A n *q S B (from m j) ≤q triangle A B (from n j) m
   unfolding norm
   triangle_holds_more n m zero = triangle_holds n m
   triangle_holds_more n m (suc j) =
       q_trans (subst (λ (k : ℕ). S A n *q S B k ≤q triangle A B (from n j) (suc m)) (from_suc m j) (triangle_holds_more n (suc m) j))
-      (grow (triangle A B (from n j) (suc m)) (term A (suc (from n j)) *q S B m) (nn_mul (term A (suc (from n j))) (S B m) (term_nn A na (suc (from n j))) (S_nn B nb m)))
+      (le_plus (triangle A B (from n j) (suc m)) (term A (suc (from n j)) *q S B m) (nn_mul (term A (suc (from n j))) (S B m) (term_nn A na (suc (from n j))) (S_nn B nb m)))
 
 -- the product of the sums at a and b is the sum at a + b, up to R
 pub mult : (a b A B : ℚ) → Bound a A → Bound b B → (n : ℕ) → (A +q B) +q (A +q B) ≤q ofℕ n → Bound (S a n *q S b n -q S (a +q b) n) (R (A +q B) n)

@@ -1,11 +1,8 @@
 -- The rational numbers: fractions, a whole number over one from 1 up, where two that are equal multiplied out are one number.
 -- A commutative ring, ordered by whether a difference is not negative.
-use mathlib.Core.Path.{◌≡◌, refl, ap, ◌∙◌}
-use mathlib.Core.List.{List, [], ◌∷◌}
-use native.Mathlib.Nat.{zero-lt-suc}
-use lib.IntN.{ℤ, pos, ◌+ℤ◌, ◌*ℤ◌, neg_ℤ}
-use Rattle.exact.specs.Fraction.{Fraction, Same, plus, times, opposite}
+use Rattle.std.proofs.Common.{◌≡◌, refl, ap, ◌∙◌, List, [], ◌∷◌, zero-lt-suc, ℤ, pos, ◌+ℤ◌, ◌*ℤ◌, neg_ℤ}
 use std.Quotient.{◌/◌, cls, eq/, /_set, /_rec, /_rec₂, /_elim_prop, /_elim_prop₂, /_elim_prop₃}
+use Rattle.exact.specs.Fraction.{Fraction, Same, plus, times, opposite}
 use Rattle.exact.proofs.Ring.{CRing, Expr, con, ◌⊕◌, ◌⊗◌, ⊝, norm, ⟦◌⟧, solve}
 use Rattle.exact.proofs.Integer.{zring, x₀, x₁, x₂, x₃, x₄, x₅}
 

@@ -1,11 +1,8 @@
 -- A normaliser for commutative rings: two expressions with the same normal form have the same value in every commutative ring.
 -- Coefficients are integers, and `of` carries them into the ring.
-use mathlib.Core.Path.{◌≡◌, refl, sym, ap, ap₂, ◌∙◌}
-use mathlib.Core.Bool.{Bool, true, false}
-use mathlib.Core.List.{List, [], ◌∷◌}
-use Prim.Native.Nat.{ℕ, zero, suc, compare, Ordering}
-use lib.Dec.{T, leb, compare_is_eq, eqb→eq}
-use lib.IntN.{ℤ, pos, negsuc, ◌+ℤ◌, ◌*ℤ◌}
+use Rattle.std.proofs.Common.{◌≡◌, refl, sym, ap, ap₂, ◌∙◌, Bool, true, false, List, [], ◌∷◌, ℕ, zero, suc, T, leb, eqb→eq, ℤ, pos, negsuc, ◌+ℤ◌, ◌*ℤ◌}
+use Rattle.std.proofs.Math.Dec.{compare_is_eq}
+use Prim.Native.Nat.{compare, Ordering}
 
 pub record CRing : Type 1 where
   pub carrier : Type 0
@@ -97,17 +94,15 @@ norm (a ⊗ b) = mul_p (norm a) (norm b)
 norm (⊝ a) = mul_t (negsuc 0) [] (norm a)
 
 next_eq : (o p : Ordering) → T (compare_is_eq (next o p)) → T (compare_is_eq o) × T (compare_is_eq p)
-next_eq Ordering.lt p t = absurd t
 next_eq Ordering.eq p t = (tt, t)
-next_eq Ordering.gt p t = absurd t
+next_eq _ _ t = absurd t
 
 cmp_m_eq : (m n : List ℕ) → T (compare_is_eq (cmp_m m n)) → m ≡ n
 cmp_m_eq [] [] t = refl
-cmp_m_eq [] (y ∷ n) t = absurd t
-cmp_m_eq (x ∷ m) [] t = absurd t
 cmp_m_eq (x ∷ m) (y ∷ n) t =
     let h = next_eq (compare x y) (cmp_m m n) t in
     ap₂ (λ (a : ℕ) (l : List ℕ). a ∷ l) (eqb→eq x y h.0) (cmp_m_eq m n h.1)
+cmp_m_eq _ _ t = absurd t
 
 module _ (K : CRing) where
   abbrev pub look : List K.carrier → ℕ → K.carrier

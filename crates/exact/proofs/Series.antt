@@ -1,11 +1,6 @@
 -- The sums of the exponential series among the rationals, and their tails.
-use mathlib.Core.Path.{◌≡◌, refl, sym, ap, ◌∙◌, subst}
-use mathlib.Core.List.{[], ◌∷◌}
-use Prim.Native.Nat.{ℕ, zero, suc, ◌+◌, ◌-◌, ◌≤◌}
-use native.Mathlib.Nat.{le_trans, le_refl, le-suc}
-use native.Mathlib.Omega.{arith}
-use lib.Dec.{T}
-use lib.IntN.{pos}
+use Rattle.std.proofs.Common.{◌≡◌, refl, sym, ap, ◌∙◌, subst, [], ◌∷◌, ℕ, zero, suc, ◌+◌, ◌-◌, ◌≤◌, le_trans, le_refl, arith, T, pos}
+use Rattle.std.proofs.Math.Nat.{le-suc}
 use Rattle.exact.proofs.Ring.{con, ◌⊕◌, ◌⊖◌, ◌⊗◌, norm}
 use Rattle.exact.proofs.Integer.{x₀, x₁, x₂, x₃}
 use Rattle.exact.proofs.Rational.{ℚ, ◌+q◌, ◌*q◌, -q◌, ◌-q◌, ofℤ, qring}
@@ -69,10 +64,7 @@ from_plus a zero = omega arith
 from_plus a (suc j) = let e = from_plus a j in omega arith
 
 pub from_comm : (a b : ℕ) → from a b ≡ from b a
-from_comm a b = from_plus a b ∙ commute a b ∙ sym (from_plus b a)
-  where
-    commute : (a b : ℕ) → a + b ≡ b + a
-    commute a b = omega arith
+from_comm a b = from_plus a b ∙ omega arith ∙ sym (from_plus b a)
 
 at_from : (a n : ℕ) → a ≤ n → from a (n - a) ≡ n
 at_from a n h = from_plus a (n - a) ∙ back

@@ -1,9 +1,5 @@
 -- A small change of the argument: the sum at a + d is near what the sum at a is near.
-use mathlib.Core.Path.{refl, sym, subst}
-use mathlib.Core.List.{[], ◌∷◌}
-use Prim.Native.Nat.{ℕ, ◌≤◌}
-use lib.Dec.{T}
-use lib.IntN.{pos}
+use Rattle.std.proofs.Common.{refl, sym, subst, [], ◌∷◌, ℕ, ◌≤◌, T, pos}
 use Rattle.exact.proofs.Ring.{con, ◌⊕◌, ◌⊖◌, ◌⊗◌, ⊝, norm}
 use Rattle.exact.proofs.Integer.{x₀, x₁, x₂}
 use Rattle.exact.proofs.Rational.{ℚ, ◌+q◌, ◌*q◌, -q◌, ◌-q◌, ofℤ, qring}

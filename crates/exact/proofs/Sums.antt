@@ -1,8 +1,5 @@
 -- The sums, rests and places of the definitions are those of the rationals.
-use mathlib.Core.Path.{◌≡◌, refl, ap, ap₂, ◌∙◌}
-use mathlib.Core.List.{[], ◌∷◌}
-use Prim.Native.Nat.{ℕ, zero, suc}
-use lib.IntN.{pos}
+use Rattle.std.proofs.Common.{◌≡◌, refl, ap, ap₂, ◌∙◌, [], ◌∷◌, ℕ, zero, suc, pos}
 use std.Quotient.{cls}
 use Rattle.exact.specs.Fraction.{Fraction, whole, part, times, absolute}
 use Rattle.exact.proofs.Ring.{con, ◌⊕◌, ◌⊗◌, norm}

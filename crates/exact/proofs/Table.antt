@@ -1,22 +1,13 @@
 -- Tables: one computed test over a whole table gives each row its rule, for every sum, and every bracket. A row is a whole number x that stands for num x / l, with the unit unit x / l.
-use mathlib.Core.Path.{◌≡◌, refl, sym, ap, ◌∙◌, subst}
-use mathlib.Core.Bool.{Bool, true, false}
-use mathlib.Core.List.{List, [], ◌∷◌}
-use Prim.Native.Nat.{ℕ, zero, suc, ◌+◌, ◌*◌, ◌^◌, ◌≤◌, ◌<◌}
-use native.Mathlib.Nat.{zero-lt-suc, mul-pos, mul-le-mul_right}
-use native.Mathlib.Omega.{arith}
-use lib.Dec.{T, leb, lit≤, leb→le, le→leb}
-use lib.Pow.{pow_pos}
-use lib.IntN.{ℤ, pos, nat_abs}
-use lib.ListN.{length, get_or}
+use Rattle.std.proofs.Common.{◌≡◌, refl, sym, ap, ◌∙◌, subst, Bool, true, List, [], ◌∷◌, ℕ, zero, suc, ◌+◌, ◌*◌, ◌^◌, ◌≤◌, ◌<◌, zero-lt-suc, mul-pos, mul-le-mul_right, arith, T, leb, lit≤, leb→le, le→leb, pow_pos, ℤ, pos, nat_abs, length, get_or, mul-le-mul, add-zero, zero-add, add-suc, suc-add, le_of_suc-le-suc, not-suc-le-zero, ◌&&◌}
+use Rattle.std.specs.Float.Ieee.Fits.{and_l, and_r}
 use Rattle.exact.specs.Fraction.{fraction}
 use Rattle.exact.proofs.Ring.{con, ◌⊖◌, ◌⊗◌, norm}
 use Rattle.exact.proofs.Integer.{x₀, x₁, x₂}
 use Rattle.exact.proofs.Rational.{ℚ, is, ◌+q◌, ◌*q◌, -q◌, ◌-q◌, ofℤ, qring}
 use Rattle.exact.proofs.Order.{nn, ◌≤q◌, q_trans, q_mul}
-use Rattle.exact.proofs.Bound.{ofℕ, inv, nn_ofℕ, Bound, bound_more, bound_mul, bound_self, bound_turn, bound_via, bound_above}
+use Rattle.exact.proofs.Bound.{ofℕ, inv, nn_ofℕ, Bound, bound_more, bound_mul, bound_self, bound_turn, bound_via, bound_above, bound_is}
 use Rattle.exact.proofs.Compare.{whole_cls, leq_in, fr, fr_le, nn_fr, dy, nn_dy}
-use native.Mathlib.Nat.{mul-le-mul, add-zero, zero-add, add-suc, suc-add, le_of_suc-le-suc, not-suc-le-zero}
 use Rattle.exact.specs.Exponential.{within}
 use Rattle.exact.specs.Logarithm.{Base, binary, decimal}
 use Rattle.exact.specs.Exact.{OfExp, OfPower}
@@ -28,28 +19,16 @@ use Rattle.exact.proofs.Logarithm.{low, cut, root, low_near_root, low_bound}
 use Rattle.exact.proofs.Claims.{carry, carry_power}
 
 -- ---- a test of every row, and of one
-abbrev pub both : Bool → Bool → Bool
-both true b = b
-both false b = false
-
-pub both_left : (a b : Bool) → T (both a b) → T a
-both_left true b t = tt
-both_left false b t = t
-
-pub both_right : (a b : Bool) → T (both a b) → T b
-both_right true b t = t
-both_right false b t = absurd t
-
 abbrev pub every : (ℕ → ℕ → Bool) → ℕ → List ℕ → Bool
 every f i [] = true
-every f i (x ∷ xs) = both (f i x) (every f (suc i) xs)
+every f i (x ∷ xs) = f i x && every f (suc i) xs
 
 row_from : (f : ℕ → ℕ → Bool) (xs : List ℕ) (i : ℕ) → T (every f i xs) → (k : ℕ) → k < length xs → T (f (i + k) (get_or xs k 0))
 row_from f [] i t k h = absurd (not-suc-le-zero h)
-row_from f (x ∷ xs) i t zero h = subst (λ (m : ℕ). T (f m x)) (sym (add-zero i)) (both_left (f i x) (every f (suc i) xs) t)
+row_from f (x ∷ xs) i t zero h = subst (λ (m : ℕ). T (f m x)) (sym (add-zero i)) (and_l (f i x) (every f (suc i) xs) t)
 row_from f (x ∷ xs) i t (suc k) h =
     subst (λ (m : ℕ). T (f m (get_or xs k 0))) (suc-add i k ∙ sym (add-suc i k))
-    (row_from f xs (suc i) (both_right (f i x) (every f (suc i) xs) t) k (le_of_suc-le-suc h))
+    (row_from f xs (suc i) (and_r (f i x) (every f (suc i) xs) t) k (le_of_suc-le-suc h))
 
 pub row : (f : ℕ → ℕ → Bool) (xs : List ℕ) → T (every f 0 xs) → (k : ℕ) → k < length xs → T (f k (get_or xs k 0))
 row f xs t k h = subst (λ (m : ℕ). T (f m (get_or xs k 0))) (zero-add k) (row_from f xs 0 t k h)
@@ -73,7 +52,7 @@ module _ (p : ℕ → ℤ) (q : ℕ) (Q : 0 < q) (n l : ℕ) (L : 0 < l) (num un
 
 -- ---- rows against 2 ^ (i / c) and 10 ^ (i / c), i at most c: half a unit at ln b cut to 96 places leaves room for every bracket
 unfoldable pub power_test : Base → ℕ → ℕ → ℕ → (ℕ → ℕ) → (ℕ → ℕ) → ℕ → ℕ → Bool
-power_test b c n l num unit i x = both (leb (2 * l) (unit x * 2 ^ 79)) (test (2 * l) (2 * num x) (unit x) (run (pos (i * cut b)) (c * 2 ^ 96) n))
+power_test b c n l num unit i x = leb (2 * l) (unit x * 2 ^ 79) && test (2 * l) (2 * num x) (unit x) (run (pos (i * cut b)) (c * 2 ^ 96) n)
 
 cut_le : (b : Base) → cut b ≤ 3 * 2 ^ 96
 cut_le binary = lit≤ tt
@@ -81,8 +60,8 @@ cut_le decimal = lit≤ tt
 
 pub root_bound : (b : Base) → Bound (root b) (ofℕ 3)
 unfolding nn ◌-q◌ ◌+q◌ -q◌ ofℕ ofℤ
-root_bound binary = record { hi = record { le = tt }; lo = record { le = tt } }
-root_bound decimal = record { hi = record { le = tt }; lo = record { le = tt } }
+root_bound binary = bound_is tt tt
+root_bound decimal = bound_is tt tt
 
 -- every sum at 3 is at most 32
 three_nums : (ofℕ 3 +q ofℕ 3 ≤q ofℕ 20) × (S (ofℕ 3) 20 +q R (ofℕ 3) 20 ≤q ofℕ 32) × (dy 1 84 *q ofℕ 32 ≤q dy 1 79)
@@ -102,27 +81,18 @@ few i c t n P h k m =
     omega arith
 
 doubled : (y l : ℕ) (L : 0 < l) → fr (pos (2 * y)) (2 * l) (mul-pos (zero-lt-suc 1) L) ≡ fr (pos y) l L
-doubled y l L = is (ap pos (go y l))
-  where
-    go : (y l : ℕ) → 2 * y * l ≡ y * (2 * l)
-    go y l = omega arith
+doubled y l L = is (ap pos (omega arith))
 
 halved : (u l : ℕ) (L : 0 < l) → fr (pos u) (2 * l) (mul-pos (zero-lt-suc 1) L) +q fr (pos u) (2 * l) (mul-pos (zero-lt-suc 1) L) ≡ fr (pos u) l L
 unfolding ◌+q◌
-halved u l L = is (ap pos (go u l))
-  where
-    go : (u l : ℕ) → (u * (2 * l) + u * (2 * l)) * l ≡ u * (2 * l * (2 * l))
-    go u l = omega arith
+halved u l L = is (ap pos (omega arith))
 
 part_of : (i t c P : ℕ) (C : 0 < c) (Z : 0 < P) → fr (pos (i * t)) (c * P) (mul-pos C Z) ≡ fr (pos i) c C *q fr (pos t) P Z
 unfolding ◌*q◌
 part_of i t c P C Z = refl
 
 unit_bound : (i c : ℕ) (C : 0 < c) → i ≤ c → Bound (fr (pos i) c C) (ofℕ 1)
-unit_bound i c C h = bound_more (bound_self (nn_fr i c C)) (subst (λ (x : ℚ). fr (pos i) c C ≤q x) (whole_cls 1) (fr_le i c 1 1 C (zero-lt-suc 0) (go i c h)))
-  where
-    go : (i c : ℕ) → i ≤ c → i * 1 ≤ 1 * c
-    go i c h = omega arith
+unit_bound i c C h = bound_more (bound_self (nn_fr i c C)) (subst (λ (x : ℚ). fr (pos i) c C ≤q x) (whole_cls 1) (fr_le i c 1 1 C (zero-lt-suc 0) (omega arith)))
 
 one_times : (a : ℚ) → ofℕ 1 *q a ≡ a
 unfolding norm ofℕ
@@ -150,7 +120,7 @@ module _ (b : Base) (c : ℕ) (C : 0 < c) (n l : ℕ) (L : 0 < l) (num unit : �
   unfolding power_test
   power_row i h le k m =
       let x = get_or xs i 0 in
-      let t = both_right (leb (2 * l) (unit x * 2 ^ 79)) _ (row (power_test b c n l num unit) xs all i h) in
+      let t = and_r (leb (2 * l) (unit x * 2 ^ 79)) _ (row (power_test b c n l num unit) xs all i h) in
       subst (λ (u : ℚ). Bound (value i -q S u k) (half_unit_lem i)) (part_of i (cut b) c (2 ^ 96) C (pow_pos 96))
       (subst (λ (y : ℚ). Bound (y -q S (fr (pos (i * cut b)) (c * 2 ^ 96) (mul-pos C (pow_pos 96))) k) (half_unit_lem i)) (doubled (num x) l L)
       (later (λ k. Bound (fr (pos (2 * num x)) (2 * l) (mul-pos (zero-lt-suc 1) L) -q S (fr (pos (i * cut b)) (c * 2 ^ 96) (mul-pos C (pow_pos 96))) k) (half_unit_lem i)) n
@@ -160,10 +130,7 @@ module _ (b : Base) (c : ℕ) (C : 0 < c) (n l : ℕ) (L : 0 < l) (num unit : �
   unfolding power_test
   room i h =
       let x = get_or xs i 0 in
-      fr_le 1 (2 ^ 79) (unit x) (2 * l) (pow_pos 79) (mul-pos (zero-lt-suc 1) L) (go (leb→le (2 * l) (unit x * 2 ^ 79) (both_left (leb (2 * l) (unit x * 2 ^ 79)) _ (row (power_test b c n l num unit) xs all i h))))
-    where
-      go : {a b : ℕ} → a ≤ b → 1 * a ≤ b
-      go h = omega arith
+      fr_le 1 (2 ^ 79) (unit x) (2 * l) (pow_pos 79) (mul-pos (zero-lt-suc 1) L) (omega (arith, leb→le (2 * l) (unit x * 2 ^ 79) (and_l (leb (2 * l) (unit x * 2 ^ 79)) _ (row (power_test b c n l num unit) xs all i h))))
 
   -- the rule
   pub power_rule : (i : ℕ) → i < length xs → i ≤ c → OfPower b (fraction (pos i) c C) (within (fraction (pos (num (get_or xs i 0))) l L) (fraction (pos (unit (get_or xs i 0))) l L))

@@ -1,16 +1,12 @@
 -- The theorems on sums and brackets, said over fractions as the definitions have them.
-use mathlib.Core.Path.{◌≡◌, refl, sym, ap, ap₂, ◌∙◌, subst}
-use Prim.Native.Nat.{ℕ, suc, ◌-◌, ◌≤◌}
-use lib.Dec.{T, lit≤}
-use lib.IntN.{ℤ, pos, negsuc, nat_abs}
+use Rattle.std.proofs.Common.{◌≡◌, refl, sym, ap, ap₂, ◌∙◌, subst, ℕ, suc, ◌-◌, ◌≤◌, T, lit≤, ℤ, pos, negsuc, nat_abs}
 use std.Quotient.{cls}
 use Rattle.exact.specs.Fraction.{Fraction, integer, whole, part, plus, times, opposite, absolute, difference}
 use Rattle.exact.proofs.Rational.{ℚ, ◌+q◌, ◌*q◌, -q◌, ◌-q◌, ofℤ}
 use Rattle.exact.proofs.Order.{nn, nn_add, ◌≤q◌, q_trans}
 use Rattle.exact.proofs.Bound.{ofℕ, nn_le, le_nn, Bound, bound_turn}
 use Rattle.exact.proofs.Compare.{sum_cls, diff_cls, product_cls, neg_cls, integer_cls, whole_cls, part_cls, leq_in, below_in, below_out, bound_abs, abs_nn, abs_is, not_negative, own_size, dy, nn_dy, dy_mono}
-use Rattle.exact.specs.Exponential.{series, rest}
-use Rattle.exact.specs.Exponential.{within}
+use Rattle.exact.specs.Exponential.{series, rest, within}
 use Rattle.exact.specs.Logarithm.{power, Base, binary, decimal, radix, lowest, width}
 use Rattle.exact.specs.Exact.{OfPower}
 use Rattle.exact.specs.Laws.{Tail, Product, Vanishes, Grows, Inverse, Decides, Nested, power_of_whole, furthest, Powers}

@@ -1,12 +1,6 @@
 -- The rest of the series vanishes: from some place on it is below every positive fraction.
-use mathlib.Core.Path.{◌≡◌, refl, sym, ap, ◌∙◌, subst}
-use mathlib.Core.List.{[], ◌∷◌}
-use Prim.Native.Nat.{ℕ, zero, suc, ◌+◌, ◌-◌, ◌*◌, ◌^◌, ◌≤◌, ◌<◌}
-use native.Mathlib.Nat.{le_trans, le-suc, pow-suc}
-use native.Mathlib.Omega.{arith}
-use lib.Dec.{T, lit≤}
-use lib.Pow.{pow_pos}
-use lib.IntN.{pos}
+use Rattle.std.proofs.Common.{◌≡◌, refl, sym, ap, ◌∙◌, subst, [], ◌∷◌, ℕ, zero, suc, ◌+◌, ◌-◌, ◌*◌, ◌^◌, ◌≤◌, ◌<◌, le_trans, pow-suc, arith, T, lit≤, pow_pos, pos}
+use Rattle.std.proofs.Math.Nat.{le-suc}
 use std.Quotient.{cls}
 use Rattle.exact.specs.Fraction.{Fraction}
 use Rattle.exact.proofs.Ring.{con, ◌⊕◌, ◌⊗◌, norm}
@@ -27,10 +21,7 @@ R_half A n t h = q_add (term_half A (suc n) t k) (term_half A (suc n) t k)
     k = q_trans h (ofℕ_mono n (suc (suc n)) (le_trans (le-suc n) (le-suc (suc n))))
 
 two_pow : (j : ℕ) → ofℕ (2 ^ suc j) ≡ ofℕ (2 ^ j) +q ofℕ (2 ^ j)
-two_pow j = ap ofℕ (pow-suc 2 j ∙ double (2 ^ j)) ∙ ofℕ_add (2 ^ j) (2 ^ j)
-  where
-    double : (x : ℕ) → x * 2 ≡ x + x
-    double x = omega arith
+two_pow j = ap ofℕ (pow-suc 2 j ∙ omega arith) ∙ ofℕ_add (2 ^ j) (2 ^ j)
 
 -- j steps further on the rest is 2 ^ j times smaller
 pub R_pow : (A : ℚ) (n : ℕ) → T (nn A) → A +q A ≤q ofℕ n → (j : ℕ) → R A (from n j) *q ofℕ (2 ^ j) ≤q R A n
@@ -68,10 +59,7 @@ divide P p y C m =
 pub R_vanish : (A : ℚ) (n B d : ℕ) → T (nn A) → A +q A ≤q ofℕ n → R A n ≤q ofℕ B → R A (from n (B * suc d)) ≤q inv d
 R_vanish A n B d t h b =
     let j = B * suc d in
-    q_trans (divide (2 ^ j) (pow_pos j) (R A (from n j)) B (q_trans (R_pow A n t h j) b)) (over B (2 ^ j - 1) d (enough j (2 ^ j) (lt_pow j)))
-  where
-    enough : (j P : ℕ) → j < P → j ≤ suc (P - 1)
-    enough j P h = omega arith
+    q_trans (divide (2 ^ j) (pow_pos j) (R A (from n j)) B (q_trans (R_pow A n t h j) b)) (over B (2 ^ j - 1) d (omega (arith, lt_pow j)))
 
 -- ---- from some place on the rest at a fraction is at most 1 / (d + 1)
 pub record Place (A : ℚ) (d : ℕ) : Type 0 where

@@ -1,30 +1,27 @@
 -- Two figures of floats that are both near v, relative to their own sizes: equal, or neighbouring with v within d units of the lesser of their midpoint.
 use Rattle.std.proofs.Common.{◌≡◌, ℕ, ◌-◌, ◌*◌, ◌^◌, ◌<◌, ◌≤◌, Bool, true, false, cond, not, T, [], ◌∷◌, pos, ◌*ℤ◌, sym, refl, ap, ◌∙◌, subst, inl, inr, mul-le-mul_right, le_of_mul-le-mul_right, T_not, pow_pos}
-use lib.Signed.{le_z}
-use lib.Ieee.{Float, Format, prec, low, size, le}
-use lib.Ieee.Exact.{HasValue}
-use lib.Ieee.Scale.{grid, finite}
+use Rattle.std.specs.Int.Signed.{le_z, le_z_yes}
+use Rattle.std.specs.Float.{Float, Format, round_to_format}
+use Rattle.std.specs.Float.Ieee.{prec, low, size, le}
+use Rattle.std.specs.Float.Ieee.Exact.{HasValue}
+use Rattle.std.specs.Float.Ieee.Scale.{grid, finite}
 use std.Quotient.{cls}
-use Rattle.std.specs.Float.{round_to_format}
 use Rattle.exact.specs.Fraction.{whole, part, plus, times, absolute, apart, ◌≼◌}
 use Rattle.exact.proofs.Ring.{con, ◌⊕◌, ◌⊖◌, ◌⊗◌, norm}
 use Rattle.exact.proofs.Integer.{zring, x₀, x₁, x₂, x₃}
-use Rattle.exact.proofs.Rational.{ℚ, is, ◌+q◌, ◌*q◌, -q◌, ◌-q◌, ofℤ, qring}
-use Rattle.exact.proofs.Order.{nn, nn_add, nn_mul, ◌≤q◌, le_by, q_refl, q_trans, q_add, q_neg, q_mul}
-use Rattle.exact.proofs.Bound.{ofℕ, inv, nn_ofℕ, le_nn, Bound, bound_more, bound_nn, absq, bound_abs}
+use Rattle.exact.proofs.Rational.{ℚ, is, ◌+q◌, ◌*q◌, -q◌, ◌-q◌, ofℤ, qring, add_commq}
+use Rattle.exact.proofs.Order.{nn, nn_add, nn_mul, ◌≤q◌, le_by, q_refl, q_trans, q_add, q_neg, q_mul, q_total}
+use Rattle.exact.proofs.Bound.{ofℕ, inv, nn_ofℕ, le_nn, Bound, bound_more, bound_nn, absq, bound_abs, mul_right}
 use Rattle.rounding.specs.Values.{value, is_zero}
 use Rattle.rounding.specs.Units.{unit}
 use Rattle.rounding.specs.Nearest.{Neighbouring}
 use Rattle.rounding.specs.Errors.{middle, Pair, equal, zeros, beside, nearer_zero, FiguresAgree}
-use lib.Signed.{le_z_yes}
-use Rattle.exact.proofs.Rational.{add_commq}
 use Rattle.rounding.proofs.Gaps as Gaps
-use Rattle.rounding.proofs.Relative.{mul_right}
-use Rattle.rounding.proofs.Fractions.{frac, dy, frac_le, frac_le_out, nn_frac}
+use Rattle.exact.proofs.Compare.{dy, sum_cls, product_cls}
+use Rattle.rounding.proofs.Fractions.{frac, frac_le, frac_le_out, nn_frac}
 use Rattle.rounding.proofs.Value.{val, val_value, value_is}
 use Rattle.rounding.proofs.Narrow.{unit_of}
-use Rattle.rounding.proofs.Limit.{q_total}
-use Rattle.rounding.proofs.Distance.{plus_cls, times_cls, at_most_in, at_most_out, abs_cls, abs_frac, within_in, within_out}
+use Rattle.rounding.proofs.Distance.{at_most_in, at_most_out, abs_cls, abs_frac, within_in, within_out}
 use Rattle.rounding.proofs.UnitInLastPlace.{unit_is}
 use Rattle.rounding.proofs.NearestResult.{nearest_result}
 use Rattle.rounding.proofs.TwoFigures.{Figures, equal_figures, zero_figures, beside_figures, figures, middle_is}
@@ -167,7 +164,7 @@ pub figures_agree_lem : FiguresAgree
 figures_agree_lem f z w v k d fz fw fx fy hz hw nk hk hl hd = go (agree f z w (cls k) (cls d) small fz fw fx fy (cls v) bz bw)
   where
     bound_at : (a : Float) → apart (value a) v ≼ times k (absolute (value a)) → Bound (val a -q cls v) (cls k *q absq (val a))
-    bound_at a h = subst (λ (u : ℚ). Bound (u -q cls v) (cls k *q absq u)) (sym (val_value a)) (subst (λ (u : ℚ). Bound (cls (value a) -q cls v) u) (times_cls k (absolute (value a)) ∙ ap (λ (u : ℚ). cls k *q u) (abs_cls (value a))) (within_out (value a) v (times k (absolute (value a))) h))
+    bound_at a h = subst (λ (u : ℚ). Bound (u -q cls v) (cls k *q absq u)) (sym (val_value a)) (subst (λ (u : ℚ). Bound (cls (value a) -q cls v) u) (product_cls k (absolute (value a)) ∙ ap (λ (u : ℚ). cls k *q u) (abs_cls (value a))) (within_out (value a) v (times k (absolute (value a))) h))
 
     bz : Bound (val z -q cls v) (cls k *q absq (val z))
     bz = bound_at z hz
@@ -186,7 +183,7 @@ figures_agree_lem f z w v k d fz fw fx fy hz hw nk hk hl hd = go (agree f z w (c
       nn_k = le_nn (subst (λ (u : ℚ). u ≤q cls k) zero_is (at_most_out (whole 0) k nk));
       half_k = from_half (cls k) (subst (λ (u : ℚ). cls k ≤q u) half_is (at_most_out k (part 1) hk));
       little = subst (λ (u : ℚ). u ≤q cls d) all_is (at_most_out (times (times (times (whole 2) k) (plus (whole 1) k)) (plus (whole (2 ^ prec f)) (part 1))) d hl);
-      less = λ h. hd (at_most_in (whole 1) (plus d d) (subst (λ (u : ℚ). u ≤q cls (plus d d)) (sym one_is) (subst (λ (u : ℚ). ofℤ (pos 1) ≤q u) (sym (plus_cls d d)) h)));
+      less = λ h. hd (at_most_in (whole 1) (plus d d) (subst (λ (u : ℚ). u ≤q cls (plus d d)) (sym one_is) (subst (λ (u : ℚ). ofℤ (pos 1) ≤q u) (sym (sum_cls d d)) h)));
     }
       where
         zero_is : cls (whole 0) ≡ ofℤ (pos 0)
@@ -204,4 +201,4 @@ figures_agree_lem f z w v k d fz fw fx fy hz hw nk hk hl hd = go (agree f z w (c
     go : Agreeing f (val z) (val w) (cls k) (cls d) (round_to_format f z) (round_to_format f w) → Pair f v (times d (unit f (nearer_zero (round_to_format f z) (round_to_format f w)))) (round_to_format f z) (round_to_format f w)
     go (equal_agree h) = equal h
     go (zeros_agree h i) = zeros h i
-    go (beside_agree h i) = beside h (within_in v (middle (round_to_format f z) (round_to_format f w)) (times d (unit f (nearer_zero (round_to_format f z) (round_to_format f w)))) (subst (λ (u : ℚ). Bound (cls v -q cls (middle (round_to_format f z) (round_to_format f w))) u) (sym (times_cls d (unit f (nearer_zero (round_to_format f z) (round_to_format f w))))) (i (cls v) bz bw)))
+    go (beside_agree h i) = beside h (within_in v (middle (round_to_format f z) (round_to_format f w)) (times d (unit f (nearer_zero (round_to_format f z) (round_to_format f w)))) (subst (λ (u : ℚ). Bound (cls v -q cls (middle (round_to_format f z) (round_to_format f w))) u) (sym (product_cls d (unit f (nearer_zero (round_to_format f z) (round_to_format f w))))) (i (cls v) bz bw)))

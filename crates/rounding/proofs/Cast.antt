@@ -1,8 +1,9 @@
 -- A whole float as a signed integer: where it is in the range, the conversion loses nothing.
 use Rattle.std.proofs.Common.{◌≡◌, ℕ, ◌-◌, ◌*◌, ◌/◌, ◌^◌, ◌<◌, ◌≤◌, min, Bool, true, false, cond, T, ℤ, pos, neg_ℤ, sym, ap, ◌∙◌, subst, zero-lt-suc, mul-div_cancel, arith, pow_pos}
-use lib.Ieee.{Float, nan, inf, fin, up, down, lt, to_signed}
-use lib.Ieee.Fits.{down_pos}
-use lib.Ieee.Scale.{finite}
+use Rattle.std.specs.Float.{Float, fin}
+use Rattle.std.specs.Float.Ieee.{up, down, lt, to_signed}
+use Rattle.std.specs.Float.Ieee.Fits.{down_pos}
+use Rattle.std.specs.Float.Ieee.Scale.{finite}
 use Rattle.exact.proofs.Rational.{ℚ, ofℤ}
 use Rattle.exact.proofs.Bound.{ofℕ, Bound}
 use Rattle.rounding.specs.Values.{signed}
@@ -16,17 +17,13 @@ cast_signed h true n l = ap (λ (u : ℕ). neg_ℤ (pos u)) {x = min n (2 ^ h)} 
 
 pub cast_value : (h : ℕ) (x : Float) (B : ℕ) → B < 2 ^ h → T (finite x) → Mult 0 (val x) → Bound (val x) (ofℕ B) → val x ≡ ofℤ (to_signed h x)
 unfolding val ofℤ ofℕ to_signed
-cast_value h nan B lt t m b = absurd t
-cast_value h (inf s) B lt t m b = absurd t
 cast_value h (fin s m e) B lt t w b =
     let v = sized w in
     let n = v.n in
     let q : m * up e * 1 ≡ n * down e = size_out s v.s (m * up e) (down e) n 1 (down_pos e) (pow_pos 0) v.how in
-    let q' : m * up e ≡ n * down e = one_right (m * up e) (n * down e) q in
+    let q' : m * up e ≡ n * down e = omega arith in
     let d : m * up e / down e ≡ n = ap (λ (u : ℕ). u / down e) q' ∙ mul-div_cancel n (down_pos e) in
     let l : n * 1 ≤ B * 1 = frac_le_out n 1 B 1 (pow_pos 0) (zero-lt-suc 0) (size_under v.s n 1 (pow_pos 0) _ (subst (λ (u : ℚ). Bound u (ofℕ B)) v.how b)) in
     frac_same s (m * up e) (down e) n 1 (down_pos e) (zero-lt-suc 0) q
     ∙ ap (λ (z : ℤ). ofℤ z) (sym (ap (λ (u : ℕ). cond s (neg_ℤ (pos (min u (2 ^ h)))) (pos (min u (2 ^ h - 1)))) d ∙ cast_signed h s n (omega arith)))
-  where
-    one_right : (x y : ℕ) → x * 1 ≡ y → x ≡ y
-    one_right x y e = omega arith
+cast_value _ _ _ _ t _ _ = absurd t

@@ -1,18 +1,19 @@
 -- Distances of fractions, as whole numbers and as rationals.
 use Rattle.std.proofs.Common.{◌≡◌, ℕ, zero, suc, ◌+◌, ◌*◌, ◌<◌, ◌≤◌, Bool, true, false, T, [], ◌∷◌, ℤ, pos, negsuc, ◌+ℤ◌, ◌*ℤ◌, neg_ℤ, nat_abs, sym, refl, ap, ◌∙◌, subst, ap₂, le_trans, le_of_eq, mul-le-mul_right, mul-pos, le_of_mul-le-mul_right, arith, le→leb, leb→le}
-use lib.Signed.{non_neg}
-use lib.Ieee.Bits.{is_true}
-use borrow.Author.Differences.{ints, same_in, le_T}
+use Rattle.std.specs.Int.Signed.{non_neg, le_z, le_z_yes}
+use Rattle.std.specs.Float.Ieee.Bits.{is_true}
+use Rattle.std.proofs.lemmas.Int.{ints}
 use std.Quotient.{cls}
-use Rattle.exact.specs.Fraction.{plus, times, whole, Fraction, Same, absolute, difference, apart, ◌≼◌}
+use Rattle.exact.specs.Fraction.{Fraction, Same, absolute, difference, apart, ◌≼◌}
 use Rattle.exact.proofs.Ring.{◌⊕◌, ◌⊖◌, ◌⊗◌, ⊝, norm}
 use Rattle.exact.proofs.Integer.{zring, x₀, x₁}
-use Rattle.exact.proofs.Rational.{◌*q◌, ofℤ, ℚ, ◌+q◌, -q◌, ◌-q◌, qring}
+use Rattle.exact.proofs.Rational.{ℚ, ◌+q◌, -q◌, ◌-q◌, qring}
 use Rattle.exact.proofs.Order.{nn, nn_add, ◌≤q◌, le_by, q_refl, q_neg, q_antisym}
-use Rattle.exact.proofs.Bound.{ofℕ, Bound, bound_more, bound_add, bound_neg, absq, bound_abs, pick}
+use Rattle.exact.proofs.Bound.{Bound, bound_add, bound_neg, absq, bound_abs, pick}
 use Rattle.rounding.specs.Values.{signed}
-use lib.Signed.{le_z_yes}
-use Rattle.rounding.proofs.Fractions.{frac, fr, signed_scale, leq_in, leq_out}
+use Rattle.exact.proofs.Compare.{fr, leq_in, leq_out, abs_out, abs_in}
+pub use Rattle.exact.proofs.Compare.{sum_cls as plus_cls}
+use Rattle.rounding.proofs.Fractions.{frac, signed_scale}
 use Rattle.rounding.proofs.Best.{dist}
 
 -- ---- from fractions to rationals and back
@@ -26,21 +27,9 @@ pub same_number : (a b : Fraction) → ◌≡◌ {A = ℚ} (cls a) (cls b) → S
 same_number a b e =
     let x = a.num *ℤ pos b.den in
     let y = b.num *ℤ pos a.den in
-    let h = le_T x y (leq_out a b (subst (λ (q : ℚ). cls a ≤q q) e (q_refl (cls a)))) in
-    let k = le_T y x (leq_out b a (subst (λ (q : ℚ). q ≤q cls a) e (q_refl (cls a)))) in
-    same_in x y (omega (arith, h, k))
-
-pub plus_cls : (a b : Fraction) → cls (plus a b) ≡ cls a +q cls b
-unfolding ◌+q◌
-plus_cls a b = refl
-
-pub times_cls : (a b : Fraction) → cls (times a b) ≡ cls a *q cls b
-unfolding ◌*q◌
-times_cls a b = refl
-
-pub whole_cls : (n : ℕ) → cls (whole n) ≡ ofℕ n
-unfolding ofℕ ofℤ
-whole_cls n = refl
+    let h : T (le_z x y) = leq_out a b (subst (λ (q : ℚ). cls a ≤q q) e (q_refl (cls a))) in
+    let k : T (le_z y x) = leq_out b a (subst (λ (q : ℚ). q ≤q cls a) e (q_refl (cls a))) in
+    omega (arith, ints)
 
 -- ---- the absolute value, and distances
 abs_of : (z : ℤ) (d : ℕ) (D : 0 < d) → fr (pos (nat_abs z)) d D ≡ pick (non_neg z) (fr z d D)
@@ -89,10 +78,12 @@ unfolding norm ◌-q◌
 abs_above a b D h = abs_least b (absq a +q D) (subst (λ (u : ℚ). Bound u (absq a +q D)) (qring (x₀ ⊕ ⊝ (x₀ ⊖ x₁)) x₁ refl (a ∷ b ∷ [])) (bound_add (bound_abs a) (bound_neg h)))
 
 pub within_in : (a b e : Fraction) → Bound (cls a -q cls b) (cls e) → apart a b ≼ e
-within_in a b e h = at_most_in (apart a b) e (subst (λ (x : ℚ). x ≤q cls e) (sym (apart_cls a b)) (abs_least (cls a -q cls b) (cls e) h))
+unfolding ◌-q◌ ◌+q◌ -q◌
+within_in a b e h = abs_out (difference a b) e h
 
 pub within_out : (a b e : Fraction) → apart a b ≼ e → Bound (cls a -q cls b) (cls e)
-within_out a b e h = bound_more (bound_abs (cls a -q cls b)) (subst (λ (x : ℚ). x ≤q cls e) (apart_cls a b) (at_most_out (apart a b) e h))
+unfolding ◌-q◌ ◌+q◌ -q◌
+within_out a b e h = abs_in (difference a b) e h
 
 -- distances see the numbers alone
 pub apart_le : {a b c d a' b' c' d' : Fraction} → ◌≡◌ {A = ℚ} (cls a) (cls a') → ◌≡◌ {A = ℚ} (cls b) (cls b') → ◌≡◌ {A = ℚ} (cls c) (cls c') → ◌≡◌ {A = ℚ} (cls d) (cls d') → apart a' b' ≼ apart c' d' → apart a b ≼ apart c d

@@ -1,14 +1,16 @@
 -- The error of one rounding, as a rational: at most M * 2 ^ -prec and half of the smallest value, for a number of at most M in size.
 use Rattle.std.proofs.Common.{◌≡◌, ℕ, suc, ◌+◌, ◌-◌, ◌*◌, ◌^◌, ◌<◌, ◌≤◌, Bool, false, T, [], ◌∷◌, pos, sym, refl, ap, ◌∙◌, subst, le_trans, le_of_eq, lt_of_le_of_lt, mul-le-mul_right, zero-lt-suc, mul_assoc, mul_comm, mul-le-mul_left, mul-pos, le_of_mul-le-mul_right, mul_left_comm, arith, pow_pos, pow-add}
-use lib.Pow.{pow-lt}
-use lib.Ieee.{Float, Format, binary32, binary64, prec, emax, low, round}
-use lib.Ieee.Scale.{grid, overflow, finite, normal_of_fraction}
+use Rattle.std.specs.Float.{Float, Format, binary32, binary64}
+use Rattle.std.specs.Float.Ieee.{prec, emax, low, round}
+use Rattle.std.specs.Float.Ieee.Scale.{grid, overflow, finite, normal_of_fraction}
+use Rattle.std.proofs.Math.Pow.{pow-lt}
 use Rattle.exact.proofs.Ring.{con, ◌⊕◌, ◌⊗◌, norm}
 use Rattle.exact.proofs.Integer.{zring, x₀, x₁, x₂, x₃}
 use Rattle.exact.proofs.Rational.{ℚ, is, ◌+q◌, ◌*q◌, -q◌, ◌-q◌, ofℤ, qring}
 use Rattle.exact.proofs.Order.{nn, ◌≤q◌, q_refl, q_trans, q_add, q_mul}
 use Rattle.exact.proofs.Bound.{ofℕ, Bound, bound_more}
-use Rattle.rounding.proofs.Fractions.{frac, dy, frac_le_out, frac_near_signed, nn_frac, size_under}
+use Rattle.exact.proofs.Compare.{dy}
+use Rattle.rounding.proofs.Fractions.{frac, frac_le_out, frac_near_signed, nn_frac, size_under}
 use Rattle.rounding.proofs.Value.{val, value_is, finite_is, Rounds}
 use Rattle.rounding.proofs.HalfUnit.{Rel, grid_rel, round_value, grid_abs}
 

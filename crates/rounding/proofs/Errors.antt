@@ -1,8 +1,9 @@
 -- How far a rounded result is off, for whatever is nearest to its number.
 use Rattle.std.proofs.Common.{◌≡◌, ℕ, suc, ◌-◌, ◌*◌, ◌^◌, ◌<◌, ◌≤◌, Bool, true, false, not, T, [], ◌∷◌, ℤ, pos, sym, refl, ap, ◌∙◌, subst, ap₂, inl, inr, le_trans, le_of_eq, zero-lt-suc, arith, pow_pos}
-use lib.Ieee.{Float, nan, inf, fin, Format, binary32, binary64, prec, emax, low, round, mul}
-use lib.Ieee.Exact.{HasValue}
-use lib.Ieee.Scale.{finite, grid}
+use Rattle.std.specs.Float.{Float, inf, Format, binary32, binary64}
+use Rattle.std.specs.Float.Ieee.{prec, emax, low, round, mul}
+use Rattle.std.specs.Float.Ieee.Exact.{HasValue}
+use Rattle.std.specs.Float.Ieee.Scale.{finite, grid}
 use std.Quotient.{cls}
 use Rattle.exact.specs.Fraction.{Same, Fraction, whole, plus, times, absolute, ◌≼◌}
 use Rattle.exact.proofs.Ring.{con, ◌⊕◌, ◌⊖◌, ◌⊗◌, norm}
@@ -15,7 +16,8 @@ use Rattle.rounding.specs.Units.{unit}
 use Rattle.rounding.specs.Nearest.{limit}
 use Rattle.rounding.specs.Errors.{dyadic, half, InfiniteNear, HalfUnit, RelativeError, NearFigure, MultiplyAddError, MultiplesStay, MultiplesAway, ExactMultiplyAdd}
 use Rattle.rounding.specs.Errors as Errors
-use Rattle.rounding.proofs.Fractions.{frac, dy, fr, frac_same, frac_le, frac_le_out, size_out, sign_size}
+use Rattle.exact.proofs.Compare.{dy, fr, sum_cls, whole_cls}
+use Rattle.rounding.proofs.Fractions.{frac, frac_same, frac_le, frac_le_out, size_out, sign_size}
 use Rattle.rounding.proofs.Value.{val, val_value, value_is, Rounds, mul_rounds, add_rounds, fused_rounds}
 use Rattle.rounding.proofs.HalfUnit.{round_value}
 use Rattle.rounding.proofs.Error.{eps, tiny, round_relative}
@@ -23,7 +25,7 @@ use Rattle.rounding.proofs.Narrow.{unit_of, half_of_unit, narrow}
 use Rattle.rounding.proofs.MultiplyAdd.{slip, slip₂, fma_err}
 use Rattle.rounding.proofs.Multiple.{Mult, Away, mult_away, round_mult, round_away}
 use Rattle.rounding.proofs.Limit.{above_limit}
-use Rattle.rounding.proofs.Distance.{at_most_in, at_most_out, same_number, abs_cls, abs_frac, abs_least, within_in, within_out, plus_cls, whole_cls}
+use Rattle.rounding.proofs.Distance.{at_most_in, at_most_out, same_number, abs_cls, abs_frac, abs_least, within_in, within_out}
 use Rattle.rounding.proofs.UnitInLastPlace.{unit_is}
 use Rattle.rounding.proofs.NearestResult.{Result, nearest_result, rounded, rounded_rounds, rounded_finite, rounded_value}
 use Rattle.rounding.specs.Ranges.{Permitted, once, twice}
@@ -53,7 +55,7 @@ pub near_figure_lem : NearFigure
 unfolding norm ◌-q◌
 near_figure_lem f q v e x n t h =
     within_in (value x) v (plus (half (unit f x)) e)
-    (subst (λ (u : ℚ). Bound (cls (value x) -q cls v) u) (sym (plus_cls (half (unit f x)) e))
+    (subst (λ (u : ℚ). Bound (cls (value x) -q cls v) u) (sym (sum_cls (half (unit f x)) e))
     (subst (λ (u : ℚ). Bound u (cls (half (unit f x)) +q cls e)) (qring (x₀ ⊖ x₁ ⊕ (x₁ ⊖ x₂)) (x₀ ⊖ x₂) refl (cls (value x) ∷ cls q ∷ cls v ∷ []))
     (bound_add (within_out (value x) q (half (unit f x)) (half_unit_lem f q x n t)) (within_out q v e h))))
 
@@ -66,14 +68,11 @@ relative_error_lem f q x n t h =
     let c = q.den in
     let S : cls (absolute q) ≡ frac false a c q.ok = abs_cls q ∙ ap absq r.what ∙ abs_frac r.s a c q.ok in
     let k : 1 * c ≤ a * 2 ^ (emax f - 1) = frac_le_out 1 (2 ^ (emax f - 1)) a c (pow_pos (emax f - 1)) q.ok (subst (λ (u : ℚ). dy 1 (emax f - 1) ≤q u) S (at_most_out (dyadic 1 (emax f - 1)) (absolute q) h)) in
-    let b = round_relative f r.s a c q.ok r.under (le_trans (le_of_eq (one c)) k) in
+    let b = round_relative f r.s a c q.ok r.under (le_trans (le_of_eq (omega arith)) k) in
     within_in (value x) q (times (absolute q) (dyadic 1 (prec f)))
     (subst (λ (u : ℚ). Bound (u -q cls q) (cls (times (absolute q) (dyadic 1 (prec f))))) (value_is (round f r.s a c) r.s (grid f a c) (2 ^ low f) (pow_pos (low f)) (round_value f r.s a c r.under) ∙ sym r.is_value ∙ val_value x)
     (subst (λ (u : ℚ). Bound (val (round f r.s a c) -q u) (cls (times (absolute q) (dyadic 1 (prec f))))) (sym r.what)
     (subst (λ (u : ℚ). Bound (val (round f r.s a c) -q frac r.s a c q.ok) (u *q dy 1 (prec f))) (sym S) b)))
-  where
-    one : (c : ℕ) → c ≡ 1 * c
-    one c = omega arith
 
 -- ---- overflow of what is near v
 pub infinite_near_lem : InfiniteNear
@@ -82,15 +81,15 @@ infinite_near_lem f q v e x n h = (
   λ k.
       let b = within_out q v e h in
       let L = at_most_out (plus (limit f) e) v k in
-      let up : cls (limit f) ≤q cls q = above_limit b (subst (λ (u : ℚ). u ≤q cls v) (plus_cls (limit f) e) L) in
+      let up : cls (limit f) ≤q cls q = above_limit b (subst (λ (u : ℚ). u ≤q cls v) (sum_cls (limit f) e) L) in
       let low' : cls (limit f) ≤q cls (absolute q) = q_trans up (subst (λ (u : ℚ). cls q ≤q u) (sym (abs_cls q)) (bound_abs (cls q)).hi) in
-      infinite_plus x (n.overflows (at_most_in (limit f) (absolute q) low')) (n.above_zero (λ z. not_both (limit_positive f) (q_trans up (at_most_out q (whole 0) z)))),
+      infinite_plus x (n.overflows (at_most_in (limit f) (absolute q) low')) (n.above_zero (λ z. (omega (arith, limit_positive f, q_trans up (at_most_out q (whole 0) z))))),
   λ k.
       (n.otherwise (λ g.
       let b = within_out q v e h in
       k (at_most_in (limit f) (plus (absolute v) e)
       (q_trans (subst (λ (u : ℚ). cls (limit f) ≤q u) (abs_cls q) (at_most_out (limit f) (absolute q) g))
-      (subst (λ (u : ℚ). absq (cls q) ≤q u) (ap (λ (u : ℚ). u +q cls e) (sym (abs_cls v)) ∙ sym (plus_cls (absolute v) e))
+      (subst (λ (u : ℚ). absq (cls q) ≤q u) (ap (λ (u : ℚ). u +q cls e) (sym (abs_cls v)) ∙ sym (sum_cls (absolute v) e))
       (abs_least (cls q) (absq (cls v) +q cls e)
       (subst (λ (u : ℚ). Bound u (absq (cls v) +q cls e)) (qring (x₀ ⊕ (x₁ ⊖ x₀)) x₁ refl (cls v ∷ cls q ∷ [])) (bound_add (bound_abs (cls v)) b)))))))
       ).held.is_finite,
@@ -100,14 +99,10 @@ infinite_near_lem f q v e x n h = (
     limit_positive binary32 h = (at_most_in (limit binary32) (whole 0) h).le
     limit_positive binary64 h = (at_most_in (limit binary64) (whole 0) h).le
 
-    not_both : {A : Type 0} → (A → ⊥) → A → ⊥
-    not_both f a = f a
-
     infinite_plus : (x : Float) → T (infinite x) → T (not (sign x)) → x ≡ inf false
-    infinite_plus nan t u = absurd t
     infinite_plus (inf false) t u = refl
     infinite_plus (inf true) t u = absurd u
-    infinite_plus (fin s m e) t u = absurd t
+    infinite_plus _ t _ = absurd t
 
 -- ---- a multiply-add, rounded once or twice
 eps_is : (f : Format) → eps f ≡ cls (dyadic 1 (prec f))
@@ -131,7 +126,7 @@ multiply_add_error_lem f x y z r P M t fx fy fz law hp hm pt mt te =
     let p : Bound (val x *q val y) (cls P) = bound_of (times (value x) (value y)) P (val x *q val y) (product_is' x y) hp in
     let m : Bound (val x *q val y +q val z) (cls M) = bound_of (plus (times (value x) (value y)) (value z)) M (val x *q val y +q val z) (all_is x y z) hm in
     let w = fma_err f x y z r (cls P) (cls M) t fx fy fz law p m (subst (λ (u : ℚ). cls P ≤q u) (whole_cls (2 ^ t)) (at_most_out P (whole (2 ^ t)) pt))
-    (subst (λ (u : ℚ). cls M +q slip f (cls P) ≤q u) (whole_cls (2 ^ t)) (subst (λ (u : ℚ). u ≤q cls (whole (2 ^ t))) (plus_cls M (slip_f f P) ∙ ap (λ (u : ℚ). cls M +q u) (sym (slip_cls f P))) (at_most_out (plus M (slip_f f P)) (whole (2 ^ t)) mt))) te in (
+    (subst (λ (u : ℚ). cls M +q slip f (cls P) ≤q u) (whole_cls (2 ^ t)) (subst (λ (u : ℚ). u ≤q cls (whole (2 ^ t))) (sum_cls M (slip_f f P) ∙ ap (λ (u : ℚ). cls M +q u) (sym (slip_cls f P))) (at_most_out (plus M (slip_f f P)) (whole (2 ^ t)) mt))) te in (
       w.is_finite,
       within_in (value r) (plus (times (value x) (value y)) (value z)) (plus (slip_f f P) (slip_f f (plus M (slip_f f P))))
           (subst (λ (u : ℚ). Bound (cls (value r) -q cls (plus (times (value x) (value y)) (value z))) u) (bound_is f P M)
@@ -148,7 +143,7 @@ multiply_add_error_lem f x y z r P M t fx fy fz law hp hm pt mt te =
     bound_of a b q e h = subst (λ (u : ℚ). Bound u (cls b)) e (bound_more (bound_abs (cls a)) (subst (λ (u : ℚ). u ≤q cls b) (abs_cls a) (at_most_out (absolute a) b h)))
 
     bound_is : (f : Format) (P M : Fraction) → slip₂ f (cls P) (cls M) ≡ cls (plus (slip_f f P) (slip_f f (plus M (slip_f f P))))
-    bound_is f P M = ap₂ (λ (a b : ℚ). a +q b) (slip_cls f P) (ap (λ (u : ℚ). slip f (cls M +q u)) (slip_cls f P) ∙ ap (slip f) (sym (plus_cls M (slip_f f P))) ∙ slip_cls f (plus M (slip_f f P))) ∙ sym (plus_cls (slip_f f P) (slip_f f (plus M (slip_f f P))))
+    bound_is f P M = ap₂ (λ (a b : ℚ). a +q b) (slip_cls f P) (ap (λ (u : ℚ). slip f (cls M +q u)) (slip_cls f P) ∙ ap (slip f) (sym (sum_cls M (slip_f f P))) ∙ slip_cls f (plus M (slip_f f P))) ∙ sym (sum_cls (slip_f f P) (slip_f f (plus M (slip_f f P))))
 
 -- ---- exact both ways
 pub exact_multiply_add_lem : ExactMultiplyAdd
@@ -195,11 +190,8 @@ zero_cls s a c C e = ap (λ (n : ℕ). frac s n c C) e ∙ go s
 away_out : (k : ℕ) (q : Fraction) (u : ℚ) → cls q ≡ u → Away k u → Errors.Away k q
 away_out k q u e w = elim w.far [
   | inl z ↦ inl (same_number q (whole 0) (e ∙ w.how ∙ zero_cls w.s w.a w.c w.ok z))
-  | inr h ↦ inr (at_most_in (dyadic 1 k) (absolute q) (subst (λ (v : ℚ). dy 1 k ≤q v) (sym (abs_cls q ∙ ap absq (e ∙ w.how) ∙ abs_frac w.s w.a w.c w.ok)) (frac_le 1 (2 ^ k) w.a w.c (pow_pos k) w.ok (le_trans (le_of_eq (one w.c)) h))))
+  | inr h ↦ inr (at_most_in (dyadic 1 k) (absolute q) (subst (λ (v : ℚ). dy 1 k ≤q v) (sym (abs_cls q ∙ ap absq (e ∙ w.how) ∙ abs_frac w.s w.a w.c w.ok)) (frac_le 1 (2 ^ k) w.a w.c (pow_pos k) w.ok (le_trans (le_of_eq (omega arith)) h))))
 ]
-  where
-    one : (c : ℕ) → 1 * c ≡ c
-    one c = omega arith
 
 away_in : (k : ℕ) (q : Fraction) (u : ℚ) → cls q ≡ u → Errors.Away k q → Away k u
 away_in k q u e w =
@@ -212,16 +204,10 @@ away_in k q u e w =
       ok = q.ok;
       how = sym e ∙ what;
       far = elim w [
-        | inl h ↦ inl (none z.n q.den (size_out z.s false z.n q.den 0 1 q.ok (zero-lt-suc 0) (sym what ∙ is h)))
-        | inr h ↦ inr (le_trans (le_of_eq (one q.den)) (frac_le_out 1 (2 ^ k) z.n q.den (pow_pos k) q.ok (subst (λ (v : ℚ). dy 1 k ≤q v) (abs_cls q ∙ ap absq what ∙ abs_frac z.s z.n q.den q.ok) (at_most_out (dyadic 1 k) (absolute q) h))))
+        | inl h ↦ inl (omega (arith, size_out z.s false z.n q.den 0 1 q.ok (zero-lt-suc 0) (sym what ∙ is h)))
+        | inr h ↦ inr (le_trans (le_of_eq (omega arith)) (frac_le_out 1 (2 ^ k) z.n q.den (pow_pos k) q.ok (subst (λ (v : ℚ). dy 1 k ≤q v) (abs_cls q ∙ ap absq what ∙ abs_frac z.s z.n q.den q.ok) (at_most_out (dyadic 1 k) (absolute q) h))))
       ];
     }
-  where
-    one : (c : ℕ) → c ≡ 1 * c
-    one c = omega arith
-
-    none : (n d : ℕ) → n * 1 ≡ 0 * d → n ≡ 0
-    none n d h = omega arith
 
 pub multiples_stay_lem : MultiplesStay
 multiples_stay_lem f q x k h n t =

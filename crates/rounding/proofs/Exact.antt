@@ -1,17 +1,19 @@
 -- Where a rounding changes nothing: a number that the format holds, and so a multiple of 2 ^ -k of few digits.
 use Rattle.std.proofs.Common.{◌≡◌, ℕ, suc, ◌-◌, ◌*◌, ◌^◌, ◌<◌, ◌≤◌, Bool, false, T, sym, ap, ◌∙◌, subst, inl, inr, le_trans, le_of_eq, lt_of_lt_of_le, lt_of_le_of_lt, mul-le-mul_right, mul_assoc, mul_comm, mul-le-mul, mul-lt-mul_of_pos_right, arith, pow_pos, pow_mono, pow-add}
-use lib.Ieee.{Float, Format, prec, emax, low, round, mul, fits}
-use lib.Ieee.Fits.{reach}
-use lib.Ieee.Exact.{HasValue, round_exact}
-use lib.Ieee.Scale.{overflow, finite}
+use Rattle.std.specs.Float.{Float, Format}
+use Rattle.std.specs.Float.Ieee.{prec, emax, low, round, mul, fits}
+use Rattle.std.specs.Float.Ieee.Fits.{reach}
+use Rattle.std.specs.Float.Ieee.Exact.{HasValue, round_exact}
+use Rattle.std.specs.Float.Ieee.Scale.{overflow, finite}
+use Rattle.std.proofs.lemmas.Bool.{cases_lt}
 use Rattle.exact.proofs.Rational.{ℚ, ◌+q◌, ◌*q◌}
 use Rattle.exact.proofs.Bound.{Bound}
 use Rattle.rounding.specs.Ranges.{Permitted, once, twice}
 use Rattle.rounding.proofs.Fractions.{frac, frac_same, frac_le_out, size_under, size_out}
 use Rattle.rounding.proofs.Value.{val, value_is, finite_is, Rounds, mul_rounds, add_rounds, fused_rounds}
-use Rattle.rounding.proofs.Best.{order}
-use Rattle.rounding.proofs.Multiple.{Mult, sized, split_pow}
+use Rattle.rounding.proofs.Multiple.{Mult, sized}
 use Rattle.rounding.proofs.Held.{digits}
+use Rattle.rounding.proofs.PowersOfTwo.{split_pow}
 
 -- a rounded number that the format holds is not changed
 pub exact : (f : Format) (x : Float) (v : ℚ) → Rounds f x v → (s : Bool) (q j : ℕ) → v ≡ frac s (q * 2 ^ j) (2 ^ low f) (pow_pos (low f)) → q < 2 ^ prec f → q * 2 ^ j < overflow f → T (finite x) × (val x ≡ v)
@@ -38,7 +40,7 @@ exact_small f x q k u v V h few r m b =
     l (under w.n l)
   where
     below : (n p v : ℕ) → n * v < p * v → n < p
-    below n p v h = elim (order n p) [
+    below n p v h = elim (cases_lt n p) [
       | inl l ↦ l
       | inr g ↦ let k : p * v ≤ n * v = mul-le-mul_right v g in absurd (omega arith)
     ]

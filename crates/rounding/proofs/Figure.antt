@@ -1,22 +1,23 @@
 -- The last rounding of a float z to a figure: infinite from the limit on, otherwise within half a unit of z, and so of what z is near.
 use Rattle.std.proofs.Common.{◌≡◌, ℕ, ◌+◌, ◌-◌, ◌*◌, ◌^◌, ◌≤◌, Bool, false, T, [], ◌∷◌, pos, sym, refl, ap, ◌∙◌, subst, le_trans, le_of_eq, le_of_lt, mul-le-mul_right, arith, le→leb, pow_pos, pow_mono, pow-add}
-use lib.Ieee.{Float, inf, Format, prec, low, size, fits}
-use lib.Ieee.Digits.{size-lt}
-use lib.Ieee.Scale.{grid, finite}
+use Rattle.std.specs.Float.{Float, inf, Format, round_to_format}
+use Rattle.std.specs.Float.Ieee.{prec, low, size, fits}
+use Rattle.std.specs.Float.Ieee.Digits.{size-lt}
+use Rattle.std.specs.Float.Ieee.Scale.{grid, finite}
+use Rattle.std.specs.Float.Ieee.Exact.{HasValue}
 use std.Quotient.{cls}
-use Rattle.std.specs.Float.{round_to_format}
 use Rattle.exact.specs.Fraction.{Fraction, whole, plus, absolute}
 use Rattle.exact.proofs.Ring.{con, ◌⊕◌, ◌⊖◌, ◌⊗◌, ⊝, norm}
 use Rattle.exact.proofs.Integer.{zring, x₀, x₁, x₂, x₃}
 use Rattle.exact.proofs.Rational.{ℚ, is, ◌+q◌, ◌*q◌, -q◌, ◌-q◌, ofℤ, qring}
 use Rattle.exact.proofs.Order.{nn, nn_add, ◌≤q◌, le_by, q_refl, q_trans, q_add, q_mul}
-use Rattle.exact.proofs.Bound.{ofℕ, nn_le, Bound, bound_more, bound_add, bound_neg, bound_self, absq}
+use Rattle.exact.proofs.Bound.{ofℕ, nn_le, Bound, bound_more, bound_add, bound_neg, bound_self, absq, mul_right}
 use Rattle.rounding.specs.Values.{value}
 use Rattle.rounding.specs.Units.{unit}
 use Rattle.rounding.specs.Nearest.{limit, Nearest}
 use Rattle.rounding.specs.Errors.{half}
-use Rattle.rounding.proofs.Relative.{mul_right}
-use Rattle.rounding.proofs.Fractions.{frac, dy, leq_in, nn_frac}
+use Rattle.exact.proofs.Compare.{dy, leq_in}
+use Rattle.rounding.proofs.Fractions.{frac, nn_frac}
 use Rattle.rounding.proofs.Value.{val, val_value, value_is}
 use Rattle.rounding.proofs.Narrow.{unit_of}
 use Rattle.rounding.proofs.Limit.{limitℕ}
@@ -25,7 +26,6 @@ use Rattle.rounding.proofs.UnitInLastPlace.{unit_is}
 use Rattle.rounding.proofs.NearestResult.{nearest_result}
 use Rattle.rounding.proofs.Operations.{conversions}
 use Rattle.rounding.proofs.Errors.{near_value, infinite_near_lem}
-use lib.Ieee.Exact.{HasValue}
 use Rattle.rounding.proofs.Held.{digits}
 
 -- ---- a value is at most 2 ^ prec of its units

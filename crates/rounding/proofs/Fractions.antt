@@ -1,27 +1,21 @@
 -- Fractions ±a / c as rationals: products, sums, order and distance, each as a fact about whole numbers, multiplied out.
-use Rattle.std.proofs.Common.{◌≡◌, ℕ, suc, ◌+◌, ◌-◌, ◌*◌, ◌^◌, ◌<◌, ◌≤◌, Bool, true, false, T, [], ◌∷◌, ℤ, pos, negsuc, ◌+ℤ◌, ◌*ℤ◌, neg_ℤ, sym, refl, ap, ◌∙◌, subst, mul-pos, arith, le→leb, leb→le, pow_pos}
-use lib.Signed.{non_neg, le_z}
-use lib.Ieee.{unlike}
-use borrow.Author.Differences.{ints, sum_is_lem, neg_is, not_negative_in, not_negative_out, le_T, le_in}
+use Rattle.std.proofs.Common.{◌≡◌, ℕ, suc, ◌+◌, ◌-◌, ◌*◌, ◌<◌, ◌≤◌, Bool, true, false, T, [], ◌∷◌, ℤ, pos, negsuc, ◌+ℤ◌, ◌*ℤ◌, neg_ℤ, sym, refl, ap, ◌∙◌, subst, mul-pos, arith, le→leb, leb→le}
+use Rattle.std.specs.Int.Signed.{le_z}
+use Rattle.std.specs.Float.Ieee.{unlike}
+use Rattle.std.proofs.lemmas.Int.{ints}
 use std.Quotient.{cls}
-use Rattle.exact.specs.Fraction.{Fraction}
 use Rattle.exact.proofs.Ring.{con, ◌⊕◌, ◌⊖◌, ◌⊗◌, ⊝, norm}
-use Rattle.exact.proofs.Integer.{zring, x₀, x₁, x₂, x₃}
+use Rattle.exact.proofs.Integer.{zring, x₀, x₁, x₂}
 use Rattle.exact.proofs.Rational.{ℚ, is, ◌+q◌, ◌*q◌, -q◌, ◌-q◌, ofℤ, qring}
 use Rattle.exact.proofs.Order.{nn, ◌≤q◌, le_by, q_refl, q_trans, q_neg}
 use Rattle.exact.proofs.Bound.{nn_le, Bound, bound_more, bound_neg, bound_self}
+use Rattle.exact.proofs.Compare.{leq_in, leq_out}
 use Rattle.rounding.specs.Values.{signed}
+pub use Rattle.exact.proofs.Compare.{dy}
 
--- ±a / c, and n / 2 ^ k
+-- ±a / c
 abbrev pub frac : Bool → ℕ → (c : ℕ) → 0 < c → ℚ
 frac s a c h = cls record { num = signed s a; den = c; ok = h }
-
-abbrev pub dy : ℕ → ℕ → ℚ
-dy n k = frac false n (2 ^ k) (pow_pos k)
-
--- z / c, for a whole number z of either sign
-abbrev pub fr : ℤ → (c : ℕ) → 0 < c → ℚ
-fr z c C = cls record { num = z; den = c; ok = C }
 
 -- ---- products and sums
 pub signed_mul : (s t : Bool) (a b : ℕ) → signed s a *ℤ signed t b ≡ signed (unlike s t) (a * b)
@@ -59,24 +53,6 @@ pub frac_same : (s : Bool) (a c b d : ℕ) (C : 0 < c) (D : 0 < d) → a * d ≡
 frac_same s a c b d C D e = is (signed_scale s a d ∙ ap (signed s) e ∙ sym (signed_scale s b c))
 
 -- ---- an order of fractions is an order of whole numbers, multiplied out
-minus_of : (a b : Fraction) → b.num *ℤ pos a.den +ℤ neg_ℤ a.num *ℤ pos b.den ≡ b.num *ℤ pos a.den +ℤ neg_ℤ (a.num *ℤ pos b.den)
-unfolding norm
-minus_of a b = zring (x₂ ⊗ x₁ ⊕ ⊝ x₀ ⊗ x₃) (x₂ ⊗ x₁ ⊕ ⊝ (x₀ ⊗ x₃)) refl (a.num ∷ pos a.den ∷ b.num ∷ pos b.den ∷ [])
-
-pub leq_in : (a b : Fraction) → T (le_z (a.num *ℤ pos b.den) (b.num *ℤ pos a.den)) → cls a ≤q cls b
-unfolding nn ◌-q◌ ◌+q◌ -q◌
-leq_in a b t =
-    let x = a.num *ℤ pos b.den in
-    let y = b.num *ℤ pos a.den in
-    record { le = subst (λ (z : ℤ). T (non_neg z)) (sym (minus_of a b)) (not_negative_in (y +ℤ neg_ℤ x) (omega (arith, sum_is_lem y (neg_ℤ x), neg_is x, le_T x y t))) }
-
-pub leq_out : (a b : Fraction) → cls a ≤q cls b → T (le_z (a.num *ℤ pos b.den) (b.num *ℤ pos a.den))
-unfolding nn ◌-q◌ ◌+q◌ -q◌
-leq_out a b h =
-    let x = a.num *ℤ pos b.den in
-    let y = b.num *ℤ pos a.den in
-    le_in x y (omega (arith, sum_is_lem y (neg_ℤ x), neg_is x, not_negative_out (y +ℤ neg_ℤ x) (subst (λ (z : ℤ). T (non_neg z)) (minus_of a b) h.le)))
-
 pub frac_le : (a c b d : ℕ) (C : 0 < c) (D : 0 < d) → a * d ≤ b * c → frac false a c C ≤q frac false b d D
 frac_le a c b d C D h = leq_in _ _ (le→leb (a * d) (b * c) h)
 
@@ -146,10 +122,10 @@ sign_size (negsuc n) = record { s = true; n = suc n; how = refl }
 
 -- ---- and back: one number has one size
 abs_eq : (s t : Bool) (a b : ℕ) → T (le_z (signed s a) (signed t b)) → T (le_z (signed t b) (signed s a)) → a ≡ b
-abs_eq false false a b h k = omega (arith, le_T (pos a) (pos b) h, le_T (pos b) (pos a) k)
-abs_eq false true a b h k = omega (arith, le_T (pos a) (signed true b) h, le_T (signed true b) (pos a) k, neg_is (pos b))
-abs_eq true false a b h k = omega (arith, le_T (signed true a) (pos b) h, le_T (pos b) (signed true a) k, neg_is (pos a))
-abs_eq true true a b h k = omega (arith, le_T (signed true a) (signed true b) h, le_T (signed true b) (signed true a) k, neg_is (pos a), neg_is (pos b))
+abs_eq false false a b h k = omega (arith, ints)
+abs_eq false true a b h k = omega (arith, ints)
+abs_eq true false a b h k = omega (arith, ints)
+abs_eq true true a b h k = omega (arith, ints)
 
 pub size_out : (s t : Bool) (a c b d : ℕ) (C : 0 < c) (E : 0 < d) → frac s a c C ≡ frac t b d E → a * d ≡ b * c
 size_out s t a c b d C E e =

@@ -1,15 +1,16 @@
 -- How far `round` goes: half a unit at most, and in the normal range 2 ^ -prec of the number at most. In whole numbers.
 use Rattle.std.proofs.Common.{◌≡◌, ℕ, zero, suc, ◌+◌, ◌-◌, ◌*◌, ◌/◌, ◌%◌, ◌^◌, ◌<◌, ◌≤◌, Bool, not, T, eqb, ◌⊎◌, sym, refl, ap, subst, inl, inr, le_trans, le_of_eq, mul-le-mul_right, mod-lt, mul_assoc, mul_comm, mul-pos, div-add-mod', le-div_iff_mul-le, mul_left_comm, arith, eqb→eq, leb→le, pow_pos, pow-add}
+use Rattle.std.specs.Float.{Float, Format}
+use Rattle.std.specs.Float.Ieee.{prec, low, size, nearest, round}
+use Rattle.std.specs.Float.Ieee.Digits.{size_reaches}
+use Rattle.std.specs.Float.Ieee.Fits.{two, two-le_pos, round_is}
+use Rattle.std.specs.Float.Ieee.Exact.{HasValue, units_val}
+use Rattle.std.specs.Float.Ieee.Nearest.{closest}
+use Rattle.std.specs.Float.Ieee.Order.{drop, kept}
+use Rattle.std.specs.Float.Ieee.Scale.{grid, overflow}
+use Rattle.std.proofs.Math.Dec.{is_le, compare_is_eq, nleb→lt, eqb_refl}
+use Rattle.std.proofs.Math.Arith.{lt_of_le-ne}
 use Prim.Native.Nat.{compare, Ordering}
-use lib.Dec.{is_le, compare_is_eq, nleb→lt, eqb_refl}
-use lib.Arith.{lt_of_le-ne}
-use lib.Ieee.{Float, Format, prec, low, size, nearest, round}
-use lib.Ieee.Digits.{size_reaches}
-use lib.Ieee.Fits.{two, two-le_pos, round_is}
-use lib.Ieee.Exact.{HasValue, units_val}
-use lib.Ieee.Nearest.{closest}
-use lib.Ieee.Order.{drop, kept}
-use lib.Ieee.Scale.{grid, overflow}
 
 abbrev pub Cmp : Ordering → ℕ → ℕ → Type 0
 Cmp Ordering.lt a b = a < b
@@ -53,15 +54,11 @@ grid_half f a c h =
     let x = closest_half (a * 2 ^ low f) (c * 2 ^ k) (mul-pos h (pow_pos k)) in
     subst (λ (z : ℕ). Half (q * 2 ^ k * c) z (a * 2 ^ low f)) (mul_comm c (2 ^ k)) (subst (λ (z : ℕ). Half z (c * 2 ^ k) (a * 2 ^ low f)) e x)
 
--- in the normal range the unit is at most 2 ^ (1 - prec) of the number
-pred_lt : (z p : ℕ) → 0 < p → p ≤ z → z - p + (p - 1) < z
-pred_lt z p P h = omega arith
-
 pub unit_small : (f : Format) (a c : ℕ) → 0 < c → prec f ≤ size (a * 2 ^ low f / c) → unit_at f a c * 2 ^ (prec f - 1) * c ≤ a * 2 ^ low f
 unit_small f a c C h =
     let z = size (a * 2 ^ low f / c) in
     le_trans (le_of_eq (ap (λ (x : ℕ). x * c) (sym (pow-add 2 (z - prec f) (prec f - 1)))))
-    ((le-div_iff_mul-le C).0 (size_reaches (a * 2 ^ low f / c) (z - prec f + (prec f - 1)) (pred_lt z (prec f) (two-le_pos (prec f) (two f)) h)))
+    ((le-div_iff_mul-le C).0 (size_reaches (a * 2 ^ low f / c) (z - prec f + (prec f - 1)) (omega (arith, two-le_pos (prec f) (two f)))))
 
 -- |g c - n| 2 ^ prec ≤ n
 abbrev pub Rel : ℕ → ℕ → ℕ → Type 0

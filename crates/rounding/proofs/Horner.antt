@@ -1,7 +1,8 @@
 -- One step of Horner's scheme under a permitted multiply-add, with its error.
 use Rattle.std.proofs.Common.{ℕ, ◌^◌, ◌<◌, T, [], ◌∷◌, refl, subst}
-use lib.Ieee.{Float, Format, emax}
-use lib.Ieee.Scale.{finite}
+use Rattle.std.specs.Float.{Float, Format}
+use Rattle.std.specs.Float.Ieee.{emax}
+use Rattle.std.specs.Float.Ieee.Scale.{finite}
 use Rattle.exact.proofs.Ring.{◌⊕◌, ◌⊖◌, ◌⊗◌, norm}
 use Rattle.exact.proofs.Integer.{x₀, x₁, x₂, x₃, x₄}
 use Rattle.exact.proofs.Rational.{ℚ, ◌+q◌, ◌*q◌, -q◌, ◌-q◌, qring}

@@ -3,6 +3,7 @@ pub mod Value
 pub mod HalfUnit
 pub mod Error
 pub mod MultiplyAdd
+pub mod PowersOfTwo
 pub mod Best
 pub mod Narrow
 pub mod Multiple

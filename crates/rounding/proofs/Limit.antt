@@ -1,23 +1,23 @@
 -- From which number on a rounding gives an infinity: 2 ^ (emax + 1) less half a unit of the largest values, both ways.
-use Rattle.std.proofs.Common.{◌≡◌, ℕ, zero, suc, ◌+◌, ◌-◌, ◌*◌, ◌^◌, ◌<◌, ◌≤◌, Bool, true, false, not, T, ltb, ◌⊎◌, [], ◌∷◌, pos, sym, refl, ap, ◌∙◌, subst, inl, inr, le_trans, le_of_eq, lt_of_lt_of_le, mul-le-mul_right, zero-lt-suc, mul_assoc, lt_of_not-le, mul-one, mul_right_comm, not-le_of_lt, le_of_mul-le-mul_right, arith, lit≤, ltb→lt, pow_pos}
-use lib.Dec.{not_T}
-use lib.Ieee.{Float, nan, inf, fin, Format, binary32, binary64, prec, emax, low, units, round, le}
-use lib.Ieee.Fits.{round_is}
-use lib.Ieee.Bits.{cond_no}
-use lib.Ieee.Exact.{HasValue}
-use lib.Ieee.Order.{round_mono}
-use lib.Ieee.Scale.{grid, overflow}
+use Rattle.std.proofs.Common.{◌≡◌, ℕ, zero, suc, ◌+◌, ◌-◌, ◌*◌, ◌^◌, ◌<◌, ◌≤◌, Bool, false, T, ltb, [], ◌∷◌, pos, sym, refl, ap, ◌∙◌, subst, inl, inr, le_trans, le_of_eq, lt_of_lt_of_le, mul-le-mul_right, zero-lt-suc, mul_assoc, lt_of_not-le, mul-one, mul_right_comm, not-le_of_lt, le_of_mul-le-mul_right, arith, lit≤, ltb→lt, pow_pos}
+use Rattle.std.specs.Float.{Float, inf, Format, binary32, binary64}
+use Rattle.std.specs.Float.Ieee.{prec, emax, low, units, round, le}
+use Rattle.std.specs.Float.Ieee.Fits.{round_is}
+use Rattle.std.specs.Float.Ieee.Bits.{cond_no}
+use Rattle.std.specs.Float.Ieee.Exact.{HasValue}
+use Rattle.std.specs.Float.Ieee.Order.{round_mono}
+use Rattle.std.specs.Float.Ieee.Scale.{grid, overflow}
+use Rattle.std.proofs.Math.Dec.{not_T}
+use Rattle.std.proofs.lemmas.Bool.{cases_lt}
 use Rattle.exact.proofs.Ring.{con, ◌⊕◌, ◌⊖◌, ◌⊗◌, ⊝, norm}
 use Rattle.exact.proofs.Integer.{x₀, x₁, x₂, x₃}
 use Rattle.exact.proofs.Rational.{ℚ, ◌+q◌, ◌*q◌, -q◌, ◌-q◌, ofℤ, qring}
-use Rattle.exact.proofs.Order.{nn, nn_add, nn_mul, nn_total, ◌≤q◌, le_by, q_mul}
+use Rattle.exact.proofs.Order.{nn, nn_add, nn_mul, ◌≤q◌, le_by, q_mul, q_total}
 use Rattle.exact.proofs.Bound.{ofℕ, Bound, bound_more}
 use Rattle.rounding.proofs.Fractions.{frac, frac_le, frac_le_out}
 use Rattle.rounding.proofs.HalfUnit.{round_value}
 use Rattle.rounding.proofs.Error.{mul_pos2}
-use Rattle.rounding.proofs.Best.{order}
 use Rattle.rounding.proofs.Narrow.{over}
-use Rattle.rounding.specs.Nearest.{Limits}
 
 -- the limit as a whole number, and the exponent of half a unit below it, in smallest values
 abbrev pub limitℕ : Format → ℕ
@@ -44,13 +44,10 @@ overflow_from f a c C h =
     let P = 2 ^ prec f in
     let U = 2 ^ last f in
     let L = 2 ^ low f * 2 in
-    let k : grid f a c * c + (P - 1) * U * c ≤ a * 2 ^ low f * 2 = over f a c (P - 1) (last f) C (pred P) (lt_of_lt_of_le (largest_under f) h) in
+    let k : grid f a c * c + (P - 1) * U * c ≤ a * 2 ^ low f * 2 = over f a c (P - 1) (last f) C (omega arith) (lt_of_lt_of_le (largest_under f) h) in
     let m : limitℕ f * L * c ≤ a * 2 ^ low f * 2 = go (grid f a c) c (a * 2 ^ low f * 2) P U (limitℕ f * L) (pow_pos (prec f)) (subst (λ (z : ℕ). z ≤ grid f a c) (overflow_is f) h) k (limit_is f) in
     le_of_mul-le-mul_right (le_trans (le_of_eq (mul_right_comm (limitℕ f) c L)) (le_trans m (le_of_eq (mul_assoc a (2 ^ low f) 2)))) (mul_pos2 (2 ^ low f) (pow_pos (low f)))
   where
-    pred : (P : ℕ) → P - 1 ≤ P
-    pred P = omega arith
-
     go : (g c n P U M : ℕ) → 0 < P → P * U ≤ g → g * c + (P - 1) * U * c ≤ n → M ≡ (2 * P - 1) * U → M * c ≤ n
     go g c n zero U M p h k e = absurd (omega arith)
     go g c n (suc P) U M p h k e =
@@ -68,13 +65,11 @@ top_infinite binary64 = refl
 
 above_infinity : (x : Float) → T (le (inf false) x) → x ≡ inf false
 unfolding le
-above_infinity nan t = absurd t
 above_infinity (inf false) t = refl
-above_infinity (inf true) t = absurd t
-above_infinity (fin s m e) t = absurd t
+above_infinity _ t = absurd t
 
 pub infinite_from : (f : Format) (a c : ℕ) → 0 < c → limitℕ f * c ≤ a → overflow f ≤ grid f a c
-infinite_from f a c C h = elim (order (grid f a c) (overflow f)) [
+infinite_from f a c C h = elim (cases_lt (grid f a c) (overflow f)) [
   | inl l ↦
       absurd (subst (λ (x : Float). HasValue x false (grid f a c) (2 ^ low f))
       (above_infinity (round f false a c) (subst (λ (x : Float). T (le x (round f false a c))) (top_infinite f) (round_mono f (limitℕ f) 1 a c (zero-lt-suc 0) C (le_trans h (le_of_eq (sym (mul-one a)))))))
@@ -97,22 +92,10 @@ module _ (f : Format) (s : Bool) (a c : ℕ) (C : 0 < c) where
   round_finite h = lt_of_not-le (λ (g : overflow f ≤ grid f a c). h (frac_le (limitℕ f) 1 a c (zero-lt-suc 0) C (le_trans (overflow_from f a c C g) (le_of_eq (sym (mul-one a))))))
 
 -- ---- with the number z that is rounded near v
-pub q_total : (a b : ℚ) → (a ≤q b) ⊎ (b ≤q a)
-unfolding norm ◌-q◌
-q_total a b = go (nn (b -q a)) (λ t. t) (nn_total (b -q a))
-  where
-    go : (x : Bool) → (T x → T (nn (b -q a))) → (T (not x) → T (nn (-q◌ (b -q a)))) → (a ≤q b) ⊎ (b ≤q a)
-    go true f g = inl (record { le = f tt })
-    go false f g = inr (record { le = subst (λ (x : ℚ). T (nn x)) (qring (⊝ (x₁ ⊖ x₀)) (x₀ ⊖ x₁) refl (a ∷ b ∷ [])) (g tt) })
-
 -- within e of v: e above the limit, and e below it
 pub above_limit : {z v e L : ℚ} → Bound (z -q v) e → L +q e ≤q v → L ≤q z
 unfolding norm ◌-q◌
 above_limit {z} {v} {e} {L} b h = le_by ((z -q v -q (-q◌ e)) +q (v -q (L +q e))) (nn_add _ _ b.lo.le h.le) (qring (x₀ ⊖ x₃) ((x₀ ⊖ x₁ ⊖ ⊝ x₂) ⊕ (x₁ ⊖ (x₃ ⊕ x₂))) refl (z ∷ v ∷ e ∷ L ∷ []))
-
-pub below_limit : (v : ℚ) {z e L : ℚ} → Bound (z -q v) e → L ≤q z → L ≤q v +q e
-unfolding norm ◌-q◌
-below_limit v {z} {e} {L} b h = le_by ((e -q (z -q v)) +q (z -q L)) (nn_add _ _ b.hi.le h.le) (qring (x₁ ⊕ x₂ ⊖ x₃) ((x₂ ⊖ (x₀ ⊖ x₁)) ⊕ (x₀ ⊖ x₃)) refl (z ∷ v ∷ e ∷ L ∷ []))
 
 -- within k z of v, for a k from 0 to 1
 pub above_limit_relative : {z v L : ℚ} (k : ℚ) → T (nn k) → Bound (z -q v) (k *q z) → L +q k *q L ≤q v → L ≤q z
@@ -127,6 +110,3 @@ unfolding norm ◌-q◌
 below_limit_relative {z} {v} {L} k nk b h =
     le_by ((k *q z -q (z -q v)) +q (ofℤ (pos 1) -q k) *q (z -q L)) (nn_add _ _ b.hi.le (nn_mul (ofℤ (pos 1) -q k) (z -q L) nk h.le))
     (qring (x₁ ⊖ (con (pos 1) ⊖ x₃) ⊗ x₂) ((x₃ ⊗ x₀ ⊖ (x₀ ⊖ x₁)) ⊕ (con (pos 1) ⊖ x₃) ⊗ (x₀ ⊖ x₂)) refl (z ∷ v ∷ L ∷ k ∷ []))
-
-pub limits : Limits
-limits = (refl, refl)

@@ -1,10 +1,12 @@
 -- Multiples of 2 ^ -k, and what is 0 or at least 2 ^ -k in size, through products, sums and roundings.
-use Rattle.std.proofs.Common.{◌≡◌, ℕ, suc, ◌+◌, ◌-◌, ◌*◌, ◌^◌, ◌<◌, ◌≤◌, Bool, true, false, cond, T, ltb, ◌⊎◌, [], ◌∷◌, ℤ, pos, negsuc, ◌+ℤ◌, ◌*ℤ◌, sym, refl, ap, ◌∙◌, subst, ap₂, inl, inr, le_trans, le_of_eq, mul-le-mul_right, zero-lt-suc, mul_assoc, mul_comm, eq-zero-or-pos, mul-le-mul, mul-le-mul_left, mul-pos, le_of_mul-le-mul_right, mul_left_comm, arith, ltb→lt, pow_pos, pow_mono, pow-add}
-use native.Mathlib.Nat.{eq_of_mul-eq-mul_right}
-use lib.Ieee.{Float, nan, inf, fin, Format, prec, low, up, down, unlike, odd, units, round, mul}
-use lib.Ieee.Fits.{down_pos, round_is}
-use lib.Ieee.Order.{drop, kept}
-use lib.Ieee.Scale.{grid, overflow, finite}
+use Rattle.std.proofs.Common.{◌≡◌, ℕ, suc, ◌+◌, ◌-◌, ◌*◌, ◌^◌, ◌<◌, ◌≤◌, Bool, true, false, cond, T, ltb, ◌⊎◌, [], ◌∷◌, ℤ, pos, negsuc, ◌+ℤ◌, ◌*ℤ◌, sym, refl, ap, ◌∙◌, subst, ap₂, inl, inr, le_trans, le_of_eq, mul-le-mul_right, zero-lt-suc, mul_assoc, mul_comm, eq-zero-or-pos, mul-le-mul, mul-le-mul_left, mul-pos, le_of_mul-le-mul_right, mul_left_comm, arith, ltb→lt, pow_pos, pow_mono, pow-add, le_of_lt}
+use Rattle.std.specs.Float.{Float, inf, fin, Format}
+use Rattle.std.specs.Float.Ieee.{prec, low, up, down, unlike, odd, units, round, mul}
+use Rattle.std.specs.Float.Ieee.Fits.{down_pos, round_is}
+use Rattle.std.specs.Float.Ieee.Order.{drop, kept}
+use Rattle.std.specs.Float.Ieee.Scale.{grid, overflow, finite}
+use Rattle.std.proofs.Math.Nat.{eq_of_mul-eq-mul_right}
+use Rattle.std.proofs.lemmas.Bool.{cases_lt}
 use Rattle.exact.proofs.Ring.{con, ◌⊕◌, ◌⊗◌, ⊝, norm}
 use Rattle.exact.proofs.Integer.{zring, x₀, x₁, x₂}
 use Rattle.exact.proofs.Rational.{ℚ, is, ◌+q◌, ◌*q◌, -q◌, ofℤ, qring}
@@ -12,19 +14,18 @@ use Rattle.exact.proofs.Order.{◌≤q◌, q_trans, q_neg}
 use Rattle.exact.proofs.Bound.{nn_le}
 use Rattle.rounding.specs.Values.{signed}
 use Rattle.rounding.specs.Ranges.{Permitted, once, twice}
-use Rattle.rounding.proofs.Fractions.{frac, dy, fr, frac_mul, frac_same, frac_le_out, frac_neg, nn_frac, not_above, size_out}
+use Rattle.exact.proofs.Compare.{dy, fr, fr_den}
+use Rattle.rounding.proofs.Fractions.{frac, frac_mul, frac_same, frac_le_out, frac_neg, nn_frac, not_above, size_out}
 use Rattle.rounding.proofs.Value.{val, value_is, Rounds, mul_rounds, add_rounds, fused_rounds}
 use Rattle.rounding.proofs.HalfUnit.{round_value}
-use Rattle.rounding.proofs.Best.{dist, order, closest_best}
+use Rattle.rounding.proofs.Best.{dist, closest_best}
 use Rattle.rounding.proofs.Narrow.{under}
+use Rattle.rounding.proofs.PowersOfTwo.{split_pow, split_times}
 
 -- ---- multiples of 2 ^ -k
 pub record Mult (k : ℕ) (q : ℚ) : Type 0 where
   pub num : ℤ
   pub how : q ≡ fr num (2 ^ k) (pow_pos k)
-
-fr_den : (z w : ℤ) (c d : ℕ) (C : 0 < c) (D : 0 < d) → z ≡ w → c ≡ d → fr z c C ≡ fr w d D
-fr_den z w c d C D e f = is (ap₂ (λ (x : ℤ) (k : ℕ). x *ℤ pos k) e (sym f))
 
 fr_mul : (a b : ℤ) (c d : ℕ) (C : 0 < c) (D : 0 < d) → fr a c C *q fr b d D ≡ fr (a *ℤ b) (c * d) (mul-pos C D)
 unfolding ◌*q◌
@@ -141,22 +142,13 @@ away_mul {j} {k} {p} {q} v w = record {
   ok = mul-pos v.ok w.ok;
   how = ap₂ (λ (x y : ℚ). x *q y) v.how w.how ∙ frac_mul v.s w.s v.a w.a v.c w.c v.ok w.ok;
   far = elim v.far [
-    | inl z ↦ inl (ap (λ (u : ℕ). u * w.a) z ∙ none_l w.a)
+    | inl z ↦ inl (ap (λ (u : ℕ). u * w.a) z ∙ omega arith)
     | inr h ↦ elim w.far [
-      | inl z ↦ inl (ap (λ (u : ℕ). v.a * u) z ∙ none_r v.a)
-      | inr l ↦ inr (le_trans (mul-le-mul h l) (le_of_eq (regroup v.a w.a (2 ^ j) (2 ^ k) ∙ ap (λ (u : ℕ). v.a * w.a * u) (sym (pow-add 2 j k)))))
+      | inl z ↦ inl (ap (λ (u : ℕ). v.a * u) z ∙ omega arith)
+      | inr l ↦ inr (le_trans (mul-le-mul h l) (le_of_eq ((omega arith) ∙ ap (λ (u : ℕ). v.a * w.a * u) (sym (pow-add 2 j k)))))
     ]
   ];
 }
-  where
-    none_l : (x : ℕ) → 0 * x ≡ 0
-    none_l x = omega arith
-
-    none_r : (x : ℕ) → x * 0 ≡ 0
-    none_r x = omega arith
-
-    regroup : (a b x y : ℕ) → a * x * (b * y) ≡ a * b * (x * y)
-    regroup a b x y = simp (mul_assoc, mul_left_comm)
 
 -- ---- a rounding: where the result is finite, the units it is counted in
 units_under : (f : Format) (s : Bool) (q k : ℕ) → T (finite (units f s q k)) → q * 2 ^ k < overflow f
@@ -180,8 +172,8 @@ pub record PowerTimes (t g : ℕ) : Type 0 where
   pub how : g ≡ m * 2 ^ t
 
 pub grid_times : (f : Format) (a c N t : ℕ) → 0 < c → a * 2 ^ low f ≡ N * 2 ^ t * c → PowerTimes t (grid f a c)
-grid_times f a c N t C e = elim (order t d) [
-  | inl l ↦ record { m = kept (prec f) n c * 2 ^ (d - t); how = ap (λ (u : ℕ). kept (prec f) n c * u) (ap (λ (z : ℕ). 2 ^ z) {x = d} {y = d - t + t} (omega arith) ∙ pow-add 2 (d - t) t) ∙ sym (mul_assoc (kept (prec f) n c) (2 ^ (d - t)) (2 ^ t)) }
+grid_times f a c N t C e = elim (cases_lt t d) [
+  | inl l ↦ record { m = kept (prec f) n c * 2 ^ (d - t); how = split_times (kept (prec f) n c) t d (le_of_lt l) }
   | inr g ↦ record { m = N; how = still g }
 ]
   where
@@ -191,9 +183,6 @@ grid_times f a c N t C e = elim (order t d) [
     d : ℕ
     d = drop (prec f) (a * 2 ^ low f) c
 
-    split : d ≤ t → 2 ^ t ≡ 2 ^ (t - d) * 2 ^ d
-    split g = ap (λ (z : ℕ). 2 ^ z) {x = t} {y = t - d + d} (omega arith) ∙ pow-add 2 (t - d) d
-
     zero_dist : (x y z : ℕ) → dist x y ≤ dist z y → z ≡ y → x ≡ y
     zero_dist x y z h k = omega arith
 
@@ -201,7 +190,7 @@ grid_times f a c N t C e = elim (order t d) [
     still g =
         let r = N * 2 ^ (t - d) in
         let v : r * (c * 2 ^ d) ≡ N * (2 ^ (t - d) * 2 ^ d) * c = simp (mul_assoc, mul_comm, mul_left_comm) in
-        let w : r * (c * 2 ^ d) ≡ a * 2 ^ low f = v ∙ ap (λ (u : ℕ). N * u * c) (sym (split g)) ∙ sym e in
+        let w : r * (c * 2 ^ d) ≡ a * 2 ^ low f = v ∙ ap (λ (u : ℕ). N * u * c) (sym (split_pow d t g)) ∙ sym e in
         let b : kept (prec f) (a * 2 ^ low f) c * (c * 2 ^ d) ≡ a * 2 ^ low f = zero_dist _ _ (r * (c * 2 ^ d)) (closest_best (a * 2 ^ low f) (c * 2 ^ d) r (mul-pos C (pow_pos d))) w in
         let s : grid f a c * c ≡ kept (prec f) (a * 2 ^ low f) c * (c * 2 ^ d) = simp (mul_assoc, mul_comm, mul_left_comm) in
         eq_of_mul-eq-mul_right c C (grid f a c) (N * 2 ^ t) (s ∙ b ∙ e)
@@ -209,20 +198,14 @@ grid_times f a c N t C e = elim (order t d) [
 pub grid_zero : (f : Format) (a c : ℕ) → 0 < c → a ≡ 0 → grid f a c ≡ 0
 grid_zero f a c C e =
     let d = drop (prec f) (a * 2 ^ low f) c in
-    let n : a * 2 ^ low f ≡ 0 = ap (λ (u : ℕ). u * 2 ^ low f) e ∙ nil (2 ^ low f) in
+    let n : a * 2 ^ low f ≡ 0 = ap (λ (u : ℕ). u * 2 ^ low f) e ∙ omega arith in
     let b = closest_best (a * 2 ^ low f) (c * 2 ^ d) 0 (mul-pos C (pow_pos d)) in
     let z : kept (prec f) (a * 2 ^ low f) c * (c * 2 ^ d) ≡ 0 = flat _ (a * 2 ^ low f) (c * 2 ^ d) b n in
     let s : grid f a c * c ≡ kept (prec f) (a * 2 ^ low f) c * (c * 2 ^ d) = simp (mul_assoc, mul_comm, mul_left_comm) in
-    eq_of_mul-eq-mul_right c C (grid f a c) 0 (s ∙ z ∙ sym (nil c))
+    eq_of_mul-eq-mul_right c C (grid f a c) 0 (s ∙ z ∙ sym (omega arith))
   where
-    nil : (x : ℕ) → 0 * x ≡ 0
-    nil x = omega arith
-
     flat : (x y u : ℕ) → dist x y ≤ dist (0 * u) y → y ≡ 0 → x ≡ 0
     flat x y u h k = omega arith
-
-pub split_pow : (k l : ℕ) → k ≤ l → 2 ^ l ≡ 2 ^ (l - k) * 2 ^ k
-split_pow k l h = ap (λ (z : ℕ). 2 ^ z) {x = l} {y = l - k + k} (omega arith) ∙ pow-add 2 (l - k) k
 
 lower : (s : Bool) (g m k l : ℕ) → k ≤ l → g ≡ m * 2 ^ (l - k) → frac s g (2 ^ l) (pow_pos l) ≡ frac s m (2 ^ k) (pow_pos k)
 lower s g m k l h e = frac_same s g (2 ^ l) m (2 ^ k) (pow_pos l) (pow_pos k) (ap (λ (u : ℕ). u * 2 ^ k) e ∙ mul_assoc m (2 ^ (l - k)) (2 ^ k) ∙ ap (λ (u : ℕ). m * u) (sym (split_pow k l h)))
@@ -260,16 +243,13 @@ round_away f x q k h r t w = record {
     none z = grid_zero f r.a r.c r.ok z
 
     reach : r.c ≤ r.a * 2 ^ k → 2 ^ (low f - k) ≤ grid f r.a r.c
-    reach l = elim (order (grid f r.a r.c) (2 ^ (low f - k))) [
+    reach l = elim (cases_lt (grid f r.a r.c) (2 ^ (low f - k))) [
       | inl s ↦ absurd (clash r.a r.c (grid f r.a r.c) (2 ^ (low f - k)) (2 ^ k) r.ok l s (subst (λ (u : ℕ). r.a * u * 2 ≤ grid f r.a r.c * r.c + 2 ^ (low f - k) * r.c) o (under1 s)))
       | inr g ↦ g
     ]
       where
-        one : (x : ℕ) → 1 * x ≡ x
-        one x = omega arith
-
         under1 : grid f r.a r.c < 2 ^ (low f - k) → r.a * 2 ^ low f * 2 ≤ grid f r.a r.c * r.c + 2 ^ (low f - k) * r.c
-        under1 s = subst (λ (u : ℕ). r.a * 2 ^ low f * 2 ≤ grid f r.a r.c * r.c + u * r.c) (one (2 ^ (low f - k))) (under f r.a r.c 1 (low f - k) r.ok (pow_pos (prec f)) (subst (λ (u : ℕ). grid f r.a r.c < u) (sym (one (2 ^ (low f - k)))) s))
+        under1 s = subst (λ (u : ℕ). r.a * 2 ^ low f * 2 ≤ grid f r.a r.c * r.c + u * r.c) (omega arith) (under f r.a r.c 1 (low f - k) r.ok (pow_pos (prec f)) (subst (λ (u : ℕ). grid f r.a r.c < u) (sym (omega arith)) s))
 
         clash : (a c g t k : ℕ) → 0 < c → c ≤ a * k → g < t → a * (t * k) * 2 ≤ g * c + t * c → ⊥
         clash a c g t k C l s u =
@@ -280,35 +260,21 @@ round_away f x q k h r t w = record {
 -- ---- two more ways to be away from 0: to be at least 2 ^ -k, and to be at most -2 ^ -k
 pub away_above : (k : ℕ) (x : Float) → T (finite x) → dy 1 k ≤q val x → Away k (val x)
 unfolding val ofℤ
-away_above k nan t h = absurd t
-away_above k (inf s) t h = absurd t
-away_above k (fin false m e) t h = record { s = false; a = m * up e; c = down e; ok = down_pos e; how = refl; far = inr (go (down e) (m * up e * 2 ^ k) (frac_le_out 1 (2 ^ k) (m * up e) (down e) (pow_pos k) (down_pos e) h)) }
-  where
-    go : (c y : ℕ) → 1 * c ≤ y → c ≤ y
-    go c y l = omega arith
-away_above k (fin true m e) t h = absurd (no (2 ^ k) (frac_le_out 1 (2 ^ k) 0 1 (pow_pos k) (zero-lt-suc 0) (q_trans h (not_above (m * up e) (down e) (down_pos e) (frac false 0 1 (zero-lt-suc 0)) (nn_frac 0 1 (zero-lt-suc 0))))))
-  where
-    no : (K : ℕ) → 1 * 1 ≤ 0 * K → ⊥
-    no K l = absurd (omega arith)
+away_above k (fin false m e) t h = record { s = false; a = m * up e; c = down e; ok = down_pos e; how = refl; far = inr (omega (arith, frac_le_out 1 (2 ^ k) (m * up e) (down e) (pow_pos k) (down_pos e) h)) }
+away_above k (fin true m e) t h = absurd (omega (arith, frac_le_out 1 (2 ^ k) 0 1 (pow_pos k) (zero-lt-suc 0) (q_trans h (not_above (m * up e) (down e) (down_pos e) (frac false 0 1 (zero-lt-suc 0)) (nn_frac 0 1 (zero-lt-suc 0))))))
+away_above _ _ t _ = absurd t
 
 pub away_below : (k : ℕ) (x : Float) → T (finite x) → val x ≤q -q◌ (dy 1 k) → Away k (val x)
 unfolding val ofℤ
-away_below k nan t h = absurd t
-away_below k (inf s) t h = absurd t
-away_below k (fin true m e) t h = record { s = true; a = m * up e; c = down e; ok = down_pos e; how = refl; far = inr (go (down e) (m * up e * 2 ^ k) (frac_le_out 1 (2 ^ k) (m * up e) (down e) (pow_pos k) (down_pos e) (turn (m * up e) (down e) (down_pos e) h))) }
+away_below k (fin true m e) t h = record { s = true; a = m * up e; c = down e; ok = down_pos e; how = refl; far = inr (omega (arith, frac_le_out 1 (2 ^ k) (m * up e) (down e) (pow_pos k) (down_pos e) (turn (m * up e) (down e) (down_pos e) h))) }
   where
-    go : (c y : ℕ) → 1 * c ≤ y → c ≤ y
-    go c y l = omega arith
-
     turn : (a c : ℕ) (C : 0 < c) → frac true a c C ≤q -q◌ (dy 1 k) → dy 1 k ≤q frac false a c C
     turn a c C h = unfold norm in subst (λ (u : ℚ). dy 1 k ≤q u) (qring (⊝ (⊝ x₀)) x₀ refl (frac false a c C ∷ [])) (subst (λ (u : ℚ). u ≤q -q◌ (-q◌ (frac false a c C))) (qring (⊝ (⊝ x₀)) x₀ refl (dy 1 k ∷ [])) (q_neg (subst (λ (u : ℚ). u ≤q -q◌ (dy 1 k)) (sym (frac_neg a c C)) h)))
-away_below k (fin false m e) t h = absurd (no (2 ^ k) (frac_le_out 1 (2 ^ k) 0 1 (pow_pos k) (zero-lt-suc 0) (under_zero (q_trans (nn_le (nn_frac (m * up e) (down e) (down_pos e))) h))))
+away_below k (fin false m e) t h = absurd (omega (arith, frac_le_out 1 (2 ^ k) 0 1 (pow_pos k) (zero-lt-suc 0) (under_zero (q_trans (nn_le (nn_frac (m * up e) (down e) (down_pos e))) h))))
   where
-    no : (K : ℕ) → 1 * 1 ≤ 0 * K → ⊥
-    no K l = absurd (omega arith)
-
     under_zero : ofℤ (pos 0) ≤q -q◌ (dy 1 k) → dy 1 k ≤q frac false 0 1 (zero-lt-suc 0)
     under_zero g = unfold norm in subst (λ (u : ℚ). u ≤q ofℤ (pos 0)) (qring (⊝ (⊝ x₀)) x₀ refl (dy 1 k ∷ [])) (subst (λ (u : ℚ). -q◌ (-q◌ (dy 1 k)) ≤q u) (qring (⊝ (con (pos 0))) (con (pos 0)) refl []) (q_neg g))
+away_below _ _ t _ = absurd t
 
 -- ---- a permitted multiply-add of multiples
 pub permitted_mult : (f : Format) (x y z r : Float) (k : ℕ) → k ≤ low f → T (finite x) → T (finite y) → T (finite z) → T (finite (mul f x y)) → T (finite r) → Permitted f x y z r → Mult k (val x *q val y) → Mult k (val z) → Mult k (val r)

@@ -1,12 +1,13 @@
 -- A lawful multiply-add: rounded once, or the product rounded and then the sum. Its error under bounds of the product and of the result.
 use Rattle.std.proofs.Common.{ℕ, suc, ◌^◌, ◌≤◌, T, [], ◌∷◌, sym, refl, subst}
-use lib.Ieee.{Float, Format, emax, mul}
-use lib.Ieee.Scale.{finite}
+use Rattle.std.specs.Float.{Float, Format}
+use Rattle.std.specs.Float.Ieee.{emax, mul}
+use Rattle.std.specs.Float.Ieee.Scale.{finite}
 use Rattle.exact.proofs.Ring.{◌⊕◌, ◌⊖◌, ◌⊗◌, norm}
 use Rattle.exact.proofs.Integer.{x₀, x₁, x₂, x₃, x₄}
 use Rattle.exact.proofs.Rational.{ℚ, ◌+q◌, ◌*q◌, -q◌, ◌-q◌, qring}
-use Rattle.exact.proofs.Order.{nn, nn_add, nn_mul, ◌≤q◌, le_by, q_refl, q_trans, q_add, q_mul}
-use Rattle.exact.proofs.Bound.{ofℕ, Bound, bound_more, bound_add, bound_nn}
+use Rattle.exact.proofs.Order.{nn, nn_add, nn_mul, ◌≤q◌, le_by, q_refl, q_trans, q_add}
+use Rattle.exact.proofs.Bound.{ofℕ, Bound, bound_more, bound_add, bound_nn, mul_right, le_plus}
 use Rattle.rounding.specs.Ranges.{Permitted, once, twice}
 use Rattle.rounding.proofs.Value.{val, Rounds, mul_rounds, add_rounds, fused_rounds}
 use Rattle.rounding.proofs.Error.{eps, tiny, round_err, nn_eps, nn_tiny}
@@ -27,15 +28,10 @@ unfolding norm ◌-q◌
 less x y t = le_by x t (qring (x₀ ⊕ x₁ ⊖ x₁) x₀ refl (x ∷ y ∷ []))
 
 pub slip_mono : (f : Format) {M N : ℚ} → M ≤q N → slip f M ≤q slip f N
-unfolding norm
-slip_mono f {M} {N} h = q_add (subst (λ (u : ℚ). M *q eps f ≤q u) (qring (x₀ ⊗ x₁) (x₁ ⊗ x₀) refl (eps f ∷ N ∷ [])) (subst (λ (u : ℚ). u ≤q eps f *q N) (qring (x₀ ⊗ x₁) (x₁ ⊗ x₀) refl (eps f ∷ M ∷ [])) (q_mul (eps f) (nn_eps f) h))) (q_refl (tiny f))
+slip_mono f h = q_add (mul_right (eps f) (nn_eps f) h) (q_refl (tiny f))
 
 nn_slip : (f : Format) (P : ℚ) → T (nn P) → T (nn (slip f P))
 nn_slip f P h = nn_add (P *q eps f) (tiny f) (nn_mul P (eps f) h (nn_eps f)) (nn_tiny f)
-
-grow : (M u : ℚ) → T (nn u) → M ≤q M +q u
-unfolding norm ◌-q◌
-grow M u t = le_by u t (qring (x₀ ⊕ x₁ ⊖ x₀) x₁ refl (M ∷ u ∷ []))
 
 pub fma_err : (f : Format) (x y z r : Float) (P M : ℚ) (t : ℕ) → T (finite x) → T (finite y) → T (finite z) → Permitted f x y z r
     → Bound (val x *q val y) P → Bound (val x *q val y +q val z) M
@@ -43,8 +39,8 @@ pub fma_err : (f : Format) (x y z r : Float) (P M : ℚ) (t : ℕ) → T (finite
 unfolding norm ◌-q◌
 fma_err f x y z r P M t fx fy fz (once e) bp bm p m h =
     let np = bound_nn bp in
-    let w = round_err f r (val x *q val y +q val z) M t (subst (λ (u : Float). Rounds f u (val x *q val y +q val z)) (sym e) (fused_rounds f x y z fx fy fz)) bm (q_trans (grow M (slip f P) (nn_slip f P np)) m) h in
-    record { is_finite = w.is_finite; off = bound_more w.off (q_trans (slip_mono f (grow M (slip f P) (nn_slip f P np))) (less (slip f P) (slip f (M +q slip f P)) (nn_slip f P np))) }
+    let w = round_err f r (val x *q val y +q val z) M t (subst (λ (u : Float). Rounds f u (val x *q val y +q val z)) (sym e) (fused_rounds f x y z fx fy fz)) bm (q_trans (le_plus M (slip f P) (nn_slip f P np)) m) h in
+    record { is_finite = w.is_finite; off = bound_more w.off (q_trans (slip_mono f (le_plus M (slip f P) (nn_slip f P np))) (less (slip f P) (slip f (M +q slip f P)) (nn_slip f P np))) }
 fma_err f x y z r P M t fx fy fz (twice e) bp bm p m h =
     let q = mul f x y in
     let a = round_err f q (val x *q val y) P t (mul_rounds f x y fx fy) bp p h in

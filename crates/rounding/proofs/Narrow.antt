@@ -1,13 +1,14 @@
 -- The last rounding: half a unit of the result; and on which side of a midpoint the rounded number lies.
 use Rattle.std.proofs.Common.{◌≡◌, ℕ, zero, suc, ◌+◌, ◌-◌, ◌*◌, ◌/◌, ◌%◌, ◌^◌, ◌<◌, ◌≤◌, Bool, false, [], ◌∷◌, sym, refl, ap, subst, le_trans, le_of_eq, lt_of_lt_of_le, mul-le-mul_right, mul_assoc, mul_comm, mul-lt-mul_of_pos_right, mul-pos, lt_of_not-le, le-div_iff_mul-le, not-le_of_lt, mul_left_comm, arith, pow_pos, pow_mono, pow-add}
+use Rattle.std.specs.Float.{Format}
+use Rattle.std.specs.Float.Ieee.{prec, low, size, round, fits}
+use Rattle.std.specs.Float.Ieee.Digits.{size-lt}
+use Rattle.std.specs.Float.Ieee.Fits.{two, two-le_pos, nearest-le, kept-lt}
+use Rattle.std.specs.Float.Ieee.Nearest.{nearest-ge}
+use Rattle.std.specs.Float.Ieee.Order.{drop, kept}
+use Rattle.std.specs.Float.Ieee.Scale.{grid, overflow}
+use Rattle.std.proofs.Math.Nat.{div-div-eq-div-mul}
 use Prim.Native.Nat.{compare}
-use native.Mathlib.Nat.{div-div-eq-div-mul}
-use lib.Ieee.{Format, prec, low, size, round, fits}
-use lib.Ieee.Digits.{size-lt}
-use lib.Ieee.Fits.{two, two-le_pos, nearest-le, kept-lt}
-use lib.Ieee.Nearest.{nearest-ge}
-use lib.Ieee.Order.{drop, kept}
-use lib.Ieee.Scale.{grid, overflow}
 use Rattle.exact.proofs.Ring.{◌⊕◌, ◌⊖◌, ⊝, norm}
 use Rattle.exact.proofs.Integer.{x₀, x₁, x₂, x₃, x₄}
 use Rattle.exact.proofs.Rational.{ℚ, ◌+q◌, -q◌, ◌-q◌, qring}

@@ -1,11 +1,12 @@
 -- What is nearest to a number is what `round` gives, its sign apart; infinite exactly from the limit on.
 use Rattle.std.proofs.Common.{◌≡◌, ℕ, ◌+◌, ◌-◌, ◌*◌, ◌/◌, ◌^◌, ◌<◌, ◌≤◌, Bool, true, false, cond, not, T, ◌⊎◌, ℤ, pos, ◌*ℤ◌, sym, refl, ap, ◌∙◌, subst, inl, inr, le_trans, le_of_eq, le_of_lt, zero-lt-suc, mul-one, not-le_of_lt, arith, T_not, pow_pos}
-use native.Mathlib.Nat.{eq_of_mul-eq-mul_right}
-use lib.Signed.{le_z}
-use lib.Ieee.{Float, nan, inf, fin, Format, prec, low, hid, top, size, round, fits, of_bits, to_bits}
-use lib.Ieee.Bits.{of_bits-to_bits}
-use lib.Ieee.Exact.{HasValue}
-use lib.Ieee.Scale.{grid, overflow, finite}
+use Rattle.std.specs.Int.Signed.{le_z, le_z_yes}
+use Rattle.std.specs.Float.{Float, inf, fin, Format}
+use Rattle.std.specs.Float.Ieee.{prec, low, hid, top, size, round, fits, of_bits, to_bits}
+use Rattle.std.specs.Float.Ieee.Bits.{of_bits-to_bits}
+use Rattle.std.specs.Float.Ieee.Exact.{HasValue}
+use Rattle.std.specs.Float.Ieee.Scale.{grid, overflow, finite}
+use Rattle.std.proofs.Math.Nat.{eq_of_mul-eq-mul_right}
 use std.Quotient.{cls}
 use Rattle.exact.specs.Fraction.{Fraction, absolute, ◌≼◌}
 use Rattle.exact.proofs.Rational.{ℚ, is, ofℤ}
@@ -13,9 +14,9 @@ use Rattle.exact.proofs.Order.{◌≤q◌}
 use Rattle.exact.proofs.Bound.{ofℕ}
 use Rattle.rounding.specs.Values.{value, sign, infinite}
 use Rattle.rounding.specs.Nearest.{limit, Nearest}
-use Rattle.rounding.specs.Errors.{NearestUnique, HeldUnchanged, InfiniteExactly}
-use lib.Signed.{le_z_yes}
-use Rattle.rounding.proofs.Fractions.{frac, fr, frac_le_out, sign_size}
+use Rattle.rounding.specs.Errors.{NearestUnique, HeldUnchanged}
+use Rattle.exact.proofs.Compare.{fr}
+use Rattle.rounding.proofs.Fractions.{frac, frac_le_out, sign_size}
 use Rattle.rounding.proofs.Value.{val, val_value, value_is, finite_is, Rounds}
 use Rattle.rounding.proofs.HalfUnit.{round_value}
 use Rattle.rounding.proofs.Best.{dist, grid_best}
@@ -37,9 +38,8 @@ pub record Result (f : Format) (q : Fraction) (x : Float) : Type 0 where
   pub has : HasValue x t (grid f a q.den) (2 ^ low f)
 
 pub finite_or_infinite : (x : Float) → T (finite x) → T (infinite x) → ⊥
-finite_or_infinite nan t u = absurd t
-finite_or_infinite (inf s) t u = absurd t
 finite_or_infinite (fin s m e) t u = absurd u
+finite_or_infinite _ t _ = absurd t
 
 number_of : (q : Fraction) → ◌≡◌ {A = ℚ} (cls q) (frac (sign_size q.num).s (sign_size q.num).n q.den q.ok)
 number_of q = ap (λ (z : ℤ). fr z q.den q.ok) (sign_size q.num).how
@@ -76,9 +76,8 @@ bits_of f s n = cond s (top f) 0 + (size n - prec f) * hid f + n / 2 ^ (size n -
 
 bits_are : (f : Format) (y : Float) (s : Bool) (g : ℕ) → HasValue y s g (2 ^ low f) → to_bits f y ≡ bits_of f s g
 unfolding to_bits bits_of
-bits_are f nan s g h = absurd h
-bits_are f (inf t) s g h = absurd h
 bits_are f (fin t m e) s g h = ap (λ (n : ℕ). cond t (top f) 0 + (size n - prec f) * hid f + n / 2 ^ (size n - prec f)) (steps_are f t m e s g h) ∙ ap (λ (b : Bool). cond b (top f) 0 + (size g - prec f) * hid f + g / 2 ^ (size g - prec f)) h.0
+bits_are _ _ _ _ h = absurd h
 
 pub one_float : (f : Format) (y y' : Float) (s : Bool) (g : ℕ) → T (fits f y) → T (fits f y') → HasValue y s g (2 ^ low f) → HasValue y' s g (2 ^ low f) → y ≡ y'
 one_float f y y' s g t t' h h' = sym (of_bits-to_bits f y t) ∙ ap (of_bits f) (bits_are f y s g h ∙ sym (bits_are f y' s g h')) ∙ of_bits-to_bits f y' t'
@@ -94,13 +93,9 @@ from_or_below f q = elim (decide (le_z ((limit f).num *ℤ pos (absolute q).den)
   | inr t ↦ inr (λ h. T_not _ t h.le)
 ]
 
-pub infinite_exactly_lem : InfiniteExactly
-infinite_exactly_lem f q x n = (λ t. elim (from_or_below f q) [ inl h ↦ h | inr g ↦ absurd (finite_or_infinite x (n.otherwise g).held.is_finite t) ], n.overflows)
-
 infinite_is : (x : Float) → T (infinite x) → x ≡ inf (sign x)
-infinite_is nan t = absurd t
 infinite_is (inf s) t = refl
-infinite_is (fin s m e) t = absurd t
+infinite_is _ t = absurd t
 
 finite_sign : (x : Float) (t : Bool) (g l : ℕ) → HasValue x t g l → t ≡ sign x
 finite_sign x t g l h = sym (sign_of_value x t g l h)

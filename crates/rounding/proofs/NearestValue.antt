@@ -1,35 +1,35 @@
 -- What `round` gives is the nearest value of the format, ties to even, as the definitions have it.
 use Rattle.std.proofs.Common.{◌≡◌, ℕ, ◌*◌, ◌%◌, ◌^◌, ◌<◌, ◌≤◌, Bool, true, false, not, T, ◌⊎◌, pos, sym, refl, ap, ◌∙◌, subst, ap₂, inl, inr, le_of_lt, lt_irrefl, eq-zero-or-pos, le_antisymm, mul-pos, arith, pow_pos}
-use native.Mathlib.Nat.{eq_of_mul-eq-mul_right}
-use lib.Ieee.{Float, nan, inf, fin, Format, prec, low, round, to_bits}
-use lib.Ieee.Fits.{round-fits}
-use lib.Ieee.Exact.{HasValue}
-use lib.Ieee.Scale.{grid, overflow}
+use Rattle.std.specs.Float.{Float, fin, Format}
+use Rattle.std.specs.Float.Ieee.{prec, low, round, to_bits}
+use Rattle.std.specs.Float.Ieee.Fits.{round-fits}
+use Rattle.std.specs.Float.Ieee.Exact.{HasValue}
+use Rattle.std.specs.Float.Ieee.Scale.{grid, overflow}
+use Rattle.std.proofs.Math.Nat.{eq_of_mul-eq-mul_right}
+use Rattle.std.proofs.lemmas.Bool.{cases_lt}
 use std.Quotient.{cls}
 use Rattle.exact.specs.Fraction.{Fraction, Same, whole, absolute, apart, ◌≼◌}
 use Rattle.exact.proofs.Rational.{ℚ, is, ofℤ}
 use Rattle.exact.proofs.Order.{nn, ◌≤q◌}
 use Rattle.exact.proofs.Bound.{ofℕ, nn_le, absq}
 use Rattle.rounding.specs.Values.{value, sign, infinite}
-use Rattle.rounding.specs.Nearest.{Best, limit, Nearest}
-use Rattle.rounding.specs.Nearest.{Held}
+use Rattle.rounding.specs.Nearest.{Best, limit, Nearest, Held}
 use Rattle.rounding.proofs.Fractions.{frac, nn_frac, not_above, size_out}
 use Rattle.rounding.proofs.Value.{val, val_value, value_is, finite_is, Rounds}
 use Rattle.rounding.proofs.HalfUnit.{round_value}
-use Rattle.rounding.proofs.Best.{dist, order, grid_best}
+use Rattle.rounding.proofs.Best.{dist, grid_best}
 use Rattle.rounding.proofs.Held.{Digits, digits}
 use Rattle.rounding.proofs.Limit.{limitℕ, overflow_infinite, round_infinite, round_finite}
-use Rattle.rounding.proofs.EvenTie.{grid_tie, other_odd, even_digits, even_bits, odd_bits}
+use Rattle.rounding.proofs.EvenTie.{grid_tie, other_odd, even_digits, bits_parity}
 use Rattle.rounding.proofs.Distance.{at_most_in, at_most_out, same_number, abs_cls, abs_frac, apart_le, gap, nearer_in, nearer_out}
 
 -- ---- the sign of a result is the sign that was handed to `round`
 pub sign_of_value : (x : Float) (s : Bool) (g l : ℕ) → HasValue x s g l → sign x ≡ s
-sign_of_value nan s g l h = absurd h
-sign_of_value (inf t) s g l h = absurd h
 sign_of_value (fin t m e) s g l h = h.0
+sign_of_value _ _ _ _ h = absurd h
 
 pub round_sign : (f : Format) (s : Bool) (a c : ℕ) → sign (round f s a c) ≡ s
-round_sign f s a c = elim (order (grid f a c) (overflow f)) [
+round_sign f s a c = elim (cases_lt (grid f a c) (overflow f)) [
   | inl l ↦ sign_of_value (round f s a c) s (grid f a c) (2 ^ low f) (round_value f s a c l)
   | inr g ↦ ap sign (overflow_infinite f s a c g)
 ]
@@ -114,11 +114,11 @@ module _ (f : Format) (s : Bool) (a c : ℕ) (C : 0 < c) (o : grid f a c < overf
     ties_even : apart (value w) q ≼ apart (value x) q → (Same (value w) (value x) → ⊥) → to_bits f x % 2 ≡ 0
     ties_even k other =
         let b = as_near k in
-        even_bits f x s g (round_value f s a c o) (even_digits f a c C (grid_tie f a c d.q d.j C (le_of_lt d.few) (tie_nearer d.s s (g * c) (h * c) n b) (λ u. other (same_number (value w) (value x) (same u b)))))
+        bits_parity f x s g (round_value f s a c o) ∙ even_digits f a c C (grid_tie f a c d.q d.j C (le_of_lt d.few) (tie_nearer d.s s (g * c) (h * c) n b) (λ u. other (same_number (value w) (value x) (same u b))))
 
     -- another value that is as near is odd
     other_is_odd : apart (value w) q ≼ apart (value x) q → (h ≡ g → ⊥) → to_bits f w % 2 ≡ 1
-    other_is_odd k other = odd_bits f w d.s h d.how (other_odd f a c d.q d.j C (le_of_lt d.few) (tie_nearer d.s s (g * c) (h * c) n (as_near k)) other)
+    other_is_odd k other = bits_parity f w d.s h d.how ∙ other_odd f a c d.q d.j C (le_of_lt d.few) (tie_nearer d.s s (g * c) (h * c) n (as_near k)) other
 
   pub round_best : Best f q x
   round_best = record {
@@ -129,9 +129,9 @@ module _ (f : Format) (s : Bool) (a c : ℕ) (C : 0 < c) (o : grid f a c < overf
 
   -- and no other value is: one that is best too is the same number
   pub best_same : (w : Float) → Best f q w → (val w ≡ frac s g (2 ^ low f) L) × ((t : Bool) × HasValue w t g (2 ^ low f))
-  best_same w b = elim (order h' g) [
+  best_same w b = elim (cases_lt h' g) [
     | inl l ↦ absurd (odd_clash (λ u. lt_irrefl g (subst (λ (z : ℕ). z < g) u l)))
-    | inr m ↦ elim (order g h') [
+    | inr m ↦ elim (cases_lt g h') [
       | inl l ↦ absurd (odd_clash (λ u. lt_irrefl g (subst (λ (z : ℕ). g < z) u l)))
       | inr m' ↦
           let u : h' ≡ g = le_antisymm m' m in
@@ -152,10 +152,7 @@ module _ (f : Format) (s : Bool) (a c : ℕ) (C : 0 < c) (o : grid f a c < overf
       differ n' e' = n' (sym (eq_of_mul-eq-mul_right (2 ^ low f) L g (h w b.held) (size_out s (d w b.held).s g (2 ^ low f) (h w b.held) (2 ^ low f) L L (sym cls_x ∙ is e' ∙ cls_w w b.held))))
 
       odd_clash : (h w b.held ≡ g → ⊥) → ⊥
-      odd_clash n' = not_both (to_bits f w) (b.even x round_best.held (nothing_nearer w b.held) (differ n')) (other_is_odd w b.held near_w n')
-        where
-          not_both : (x : ℕ) → x % 2 ≡ 0 → x % 2 ≡ 1 → ⊥
-          not_both x p r = omega arith
+      odd_clash n' = omega (arith, b.even x round_best.held (nothing_nearer w b.held) (differ n'), other_is_odd w b.held near_w n')
 
 -- ---- `round` gives the nearest value, ties to even
 module _ (f : Format) (s : Bool) (a c : ℕ) (C : 0 < c) (q : Fraction) (e : ◌≡◌ {A = ℚ} (cls q) (frac s a c C)) where

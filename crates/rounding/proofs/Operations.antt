@@ -1,22 +1,20 @@
 -- The operations meet IEEE 754-2019: the exact result rounded once, the signs of zero, the infinities and NaN.
 use Rattle.std.proofs.Common.{◌≡◌, ℕ, suc, ◌+◌, ◌-◌, ◌*◌, ◌^◌, ◌<◌, Bool, true, false, cond, not, ◌&&◌, ◌||◌, T, eqb, ltb, [], ◌∷◌, ℤ, pos, ◌+ℤ◌, ◌*ℤ◌, sym, refl, ap, ◌∙◌, subst, ap₂, inl, inr, true≢false, eq-zero-or-pos, mul-pos, zero-mul, arith, ltb→lt, lt→ltb, pow_pos}
-use lib.Dec.{not_T}
-use lib.Ieee.{Float, nan, inf, fin, Format, prec, emax, low, up, down, unlike, odd, units, round, sum, add, mul}
-use lib.Ieee.Fits.{down_pos, round_is}
-use lib.Ieee.Bits.{cond_no, is_false}
-use lib.Ieee.Order.{drop, kept}
-use lib.Ieee.Scale.{overflow, finite}
-use borrow.Author.Differences.{ints}
+use Rattle.std.specs.Float.{Float, nan, inf, fin, Format, float_mul_add, round_to_format}
+use Rattle.std.specs.Float.Ieee.{prec, emax, low, up, down, unlike, odd, units, round, sum, add, mul, is_nan}
+use Rattle.std.specs.Float.Ieee.Fits.{down_pos, round_is, and_r}
+use Rattle.std.specs.Float.Ieee.Bits.{cond_no, is_false}
+use Rattle.std.specs.Float.Ieee.Order.{drop, kept}
+use Rattle.std.specs.Float.Ieee.Scale.{overflow, finite}
+use Rattle.std.proofs.Math.Dec.{not_T}
+use Rattle.std.proofs.lemmas.Int.{ints}
 use std.Quotient.{cls}
-use Rattle.std.specs.Float.{float_mul_add, round_to_format}
 use Rattle.exact.specs.Fraction.{Fraction, Same, whole, plus, times}
 use Rattle.exact.proofs.Ring.{con, ◌⊗◌, norm}
-use Rattle.exact.proofs.Integer.{zring, x₀}
+use Rattle.exact.proofs.Integer.{zring, x₀, mul_oneℤ}
 use Rattle.exact.proofs.Rational.{ℚ, ◌+q◌, ◌*q◌}
 use Rattle.rounding.specs.Values.{signed, value, sign, infinite, is_zero}
 use Rattle.rounding.specs.Operations.{nonzero, Rounded, Sum, RoundNearest, Products, Sums, MultiplyAdds, Conversions}
-use lib.Ieee.{is_nan}
-use Rattle.exact.proofs.Integer.{mul_oneℤ}
 use Rattle.rounding.proofs.Fractions.{signed_mul, signed_scale}
 use Rattle.rounding.proofs.Value.{val, Rounds, mul_rounds, add_rounds, fused_rounds}
 use Rattle.rounding.proofs.Multiple.{grid_zero}
@@ -68,54 +66,36 @@ times_is x y = refl
 
 mul_finite : (f : Format) (x y : Float) → T (finite x && finite y) → Rounded f (unlike (sign x) (sign y)) (times (value x) (value y)) (mul f x y)
 unfolding mul
-mul_finite f nan y t = absurd t
-mul_finite f (inf s) y t = absurd t
-mul_finite f (fin s m e) nan t = absurd t
-mul_finite f (fin s m e) (inf u) t = absurd t
 mul_finite f (fin s m e) (fin u n d) t = record {
   nearest = rounds_nearest f (mul f (fin s m e) (fin u n d)) (times (value (fin s m e)) (value (fin u n d))) (subst (λ (q : ℚ). Rounds f (mul f (fin s m e) (fin u n d)) q) (sym (times_is (fin s m e) (fin u n d))) (mul_rounds f (fin s m e) (fin u n d) tt tt));
   zero = λ z. round_zero f (unlike s u) (m * up e * (n * up d)) (down e * down d) (mul-pos (down_pos e) (down_pos d)) (product_zero s u (m * up e) (n * up d) (down e) (down d) (down_pos e) (down_pos d) z);
 }
+mul_finite _ _ _ t = absurd t
 
 mul_nan : (f : Format) (x y : Float) → T (is_nan x || is_nan y) → mul f x y ≡ nan
 unfolding mul is_nan
 mul_nan f nan y t = refl
-mul_nan f (inf s) nan t = refl
-mul_nan f (inf s) (inf u) t = absurd t
-mul_nan f (inf s) (fin u n d) t = absurd t
-mul_nan f (fin s m e) nan t = refl
-mul_nan f (fin s m e) (inf u) t = absurd t
-mul_nan f (fin s m e) (fin u n d) t = absurd t
+mul_nan f _ nan t = refl
+mul_nan _ _ _ t = absurd t
 
 mul_invalid : (f : Format) (x y : Float) → T (infinite x && is_zero y || is_zero x && infinite y) → mul f x y ≡ nan
 unfolding mul
-mul_invalid f nan y t = absurd t
-mul_invalid f (inf s) nan t = absurd t
-mul_invalid f (inf s) (inf u) t = absurd t
 mul_invalid f (inf s) (fin u n d) t = go (eqb n 0) t
   where
     go : (b : Bool) → T (b || false) → cond b nan (inf (unlike s u)) ≡ nan
     go true t = refl
     go false t = absurd t
-mul_invalid f (fin s m e) nan t = go (eqb m 0) t
-  where
-    go : (b : Bool) → T (b && false) → nan ≡ nan
-    go b t = refl
+mul_invalid f (fin s m e) nan t = refl
 mul_invalid f (fin s m e) (inf u) t = go (eqb m 0) t
   where
     go : (b : Bool) → T (b && true) → cond b nan (inf (unlike s u)) ≡ nan
     go true t = refl
     go false t = absurd t
-mul_invalid f (fin s m e) (fin u n d) t = go (eqb m 0) t
-  where
-    go : (b : Bool) → T (b && false) → mul f (fin s m e) (fin u n d) ≡ nan
-    go true t = absurd t
-    go false t = absurd t
+mul_invalid f (fin s m e) (fin u n d) t = absurd (and_r (eqb m 0) false t)
+mul_invalid _ _ _ t = absurd t
 
 mul_infinite : (f : Format) (x y : Float) → T (infinite x || infinite y) → T (nonzero x && nonzero y) → mul f x y ≡ inf (unlike (sign x) (sign y))
 unfolding mul
-mul_infinite f nan y t u = absurd u
-mul_infinite f (inf s) nan t u = absurd u
 mul_infinite f (inf s) (inf v) t u = refl
 mul_infinite f (inf s) (fin v n d) t u = go (eqb n 0) u
   where
@@ -129,6 +109,7 @@ mul_infinite f (fin s m e) (inf v) t u = go (eqb m 0) u
     go true t = absurd t
     go false t = refl
 mul_infinite f (fin s m e) (fin v n d) t u = absurd t
+mul_infinite _ _ _ _ u = absurd u
 
 pub products : Products
 products f x y = record { nan_in = mul_nan f x y; invalid = mul_invalid f x y; infinite_factor = mul_infinite f x y; finite_factors = mul_finite f x y }
@@ -157,63 +138,44 @@ plus_is x y = refl
 
 add_finite : (f : Format) (x y : Float) → T (finite x && finite y) → Rounded f (sign x && sign y) (plus (value x) (value y)) (add f x y)
 unfolding add
-add_finite f nan y t = absurd t
-add_finite f (inf s) y t = absurd t
-add_finite f (fin s m e) nan t = absurd t
-add_finite f (fin s m e) (inf u) t = absurd t
 add_finite f (fin s m e) (fin u n d) t = record {
   nearest = rounds_nearest f (add f (fin s m e) (fin u n d)) (plus (value (fin s m e)) (value (fin u n d))) (subst (λ (q : ℚ). Rounds f (add f (fin s m e) (fin u n d)) q) (sym (plus_is (fin s m e) (fin u n d))) (add_rounds f (fin s m e) (fin u n d) tt tt));
   zero = λ z. zero_sum f s (m * up e * down d) u (n * up d * down e) (down e * down d) (mul-pos (down_pos e) (down_pos d))
       (ap₂ (λ (x y : ℤ). x +ℤ y) (sym (signed_scale s (m * up e) (down d))) (sym (signed_scale u (n * up d) (down e))) ∙ same_zero (plus (value (fin s m e)) (value (fin u n d))) z);
 }
+add_finite _ _ _ t = absurd t
 
 add_nan : (f : Format) (x y : Float) → T (is_nan x || is_nan y) → add f x y ≡ nan
 unfolding add is_nan
 add_nan f nan y t = refl
-add_nan f (inf s) nan t = refl
-add_nan f (inf s) (inf u) t = absurd t
-add_nan f (inf s) (fin u n d) t = absurd t
-add_nan f (fin s m e) nan t = refl
-add_nan f (fin s m e) (inf u) t = absurd t
-add_nan f (fin s m e) (fin u n d) t = absurd t
+add_nan f _ nan t = refl
+add_nan _ _ _ t = absurd t
 
 add_differ : (f : Format) (x y : Float) → T (infinite x && infinite y) → T (unlike (sign x) (sign y)) → add f x y ≡ nan
 unfolding add
-add_differ f nan y t u = absurd t
-add_differ f (inf s) nan t u = absurd t
 add_differ f (inf false) (inf false) t u = absurd u
 add_differ f (inf false) (inf true) t u = refl
 add_differ f (inf true) (inf false) t u = refl
 add_differ f (inf true) (inf true) t u = absurd u
-add_differ f (inf s) (fin v n d) t u = absurd t
-add_differ f (fin s m e) y t u = absurd t
+add_differ _ _ _ t _ = absurd t
 
 add_agree : (f : Format) (x y : Float) → T (infinite x && infinite y) → sign x ≡ sign y → add f x y ≡ x
 unfolding add
-add_agree f nan y t u = absurd t
-add_agree f (inf s) nan t u = absurd t
 add_agree f (inf false) (inf false) t u = refl
 add_agree f (inf false) (inf true) t u = absurd (true≢false (sym u))
 add_agree f (inf true) (inf false) t u = absurd (true≢false u)
 add_agree f (inf true) (inf true) t u = refl
-add_agree f (inf s) (fin v n d) t u = absurd t
-add_agree f (fin s m e) y t u = absurd t
+add_agree _ _ _ t _ = absurd t
 
 add_left : (f : Format) (x y : Float) → T (infinite x && finite y) → add f x y ≡ x
 unfolding add
-add_left f nan y t = absurd t
-add_left f (inf s) nan t = absurd t
-add_left f (inf s) (inf u) t = absurd t
 add_left f (inf s) (fin u n d) t = refl
-add_left f (fin s m e) y t = absurd t
+add_left _ _ _ t = absurd t
 
 add_right : (f : Format) (x y : Float) → T (finite x && infinite y) → add f x y ≡ y
 unfolding add
-add_right f nan y t = absurd t
-add_right f (inf s) y t = absurd t
-add_right f (fin s m e) nan t = absurd t
 add_right f (fin s m e) (inf u) t = refl
-add_right f (fin s m e) (fin u n d) t = absurd t
+add_right _ _ _ t = absurd t
 
 pub sums : Sums
 sums f x y = record {
@@ -245,29 +207,16 @@ nan_last f x = add_nan f x nan (or_r (is_nan x) true tt)
 fused_nan : (f : Format) (x y z : Float) → T (is_nan x || is_nan y || is_nan z) → float_mul_add f x y z ≡ nan
 unfolding float_mul_add is_nan mul add
 fused_nan f nan y z t = refl
-fused_nan f (inf s) nan z t = refl
+fused_nan f _ nan z t = refl
 fused_nan f (inf s) (inf u) nan t = refl
-fused_nan f (inf s) (inf u) (inf v) t = absurd t
-fused_nan f (inf s) (inf u) (fin v k g) t = absurd t
-fused_nan f (inf s) (fin u n d) nan t = nan_last f (mul f (inf s) (fin u n d))
-fused_nan f (inf s) (fin u n d) (inf v) t = absurd t
-fused_nan f (inf s) (fin u n d) (fin v k g) t = absurd t
-fused_nan f (fin s m e) nan z t = refl
-fused_nan f (fin s m e) (inf u) nan t = nan_last f (mul f (fin s m e) (inf u))
-fused_nan f (fin s m e) (inf u) (inf v) t = absurd t
-fused_nan f (fin s m e) (inf u) (fin v k g) t = absurd t
 fused_nan f (fin s m e) (fin u n d) nan t = refl
-fused_nan f (fin s m e) (fin u n d) (inf v) t = absurd t
-fused_nan f (fin s m e) (fin u n d) (fin v k g) t = absurd t
+fused_nan f x y nan t = nan_last f (mul f x y)
+fused_nan _ _ _ _ t = absurd t
 
 some_infinite : (x y : Float) → T (infinite x && is_zero y || is_zero x && infinite y) → T (infinite x || infinite y)
 some_infinite nan y t = absurd t
 some_infinite (inf s) y t = tt
-some_infinite (fin s m e) y t = right (eqb m 0) (infinite y) t
-  where
-    right : (a b : Bool) → T (a && b) → T b
-    right true b t = t
-    right false b t = absurd t
+some_infinite (fin s m e) y t = and_r (eqb m 0) (infinite y) t
 
 fused_invalid : (f : Format) (x y z : Float) → T (infinite x && is_zero y || is_zero x && infinite y) → float_mul_add f x y z ≡ nan
 unfolding add
@@ -278,13 +227,8 @@ fused_product f x y z t u = subst (λ (r : Float). Sum f (inf (unlike (sign x) (
 
 fused_addend : (f : Format) (x y z : Float) → T (finite x && finite y && infinite z) → float_mul_add f x y z ≡ z
 unfolding float_mul_add
-fused_addend f nan y z t = absurd t
-fused_addend f (inf s) y z t = absurd t
-fused_addend f (fin s m e) nan z t = absurd t
-fused_addend f (fin s m e) (inf u) z t = absurd t
-fused_addend f (fin s m e) (fin u n d) nan t = absurd t
 fused_addend f (fin s m e) (fin u n d) (inf v) t = refl
-fused_addend f (fin s m e) (fin u n d) (fin v k g) t = absurd t
+fused_addend _ _ _ _ t = absurd t
 
 fused_is : (x y z : Float) → cls (plus (times (value x) (value y)) (value z)) ≡ val x *q val y +q val z
 unfolding val ◌+q◌ ◌*q◌
@@ -292,12 +236,6 @@ fused_is x y z = refl
 
 fused_finite : (f : Format) (x y z : Float) → T (finite x && finite y && finite z) → Rounded f (unlike (sign x) (sign y) && sign z) (plus (times (value x) (value y)) (value z)) (float_mul_add f x y z)
 unfolding float_mul_add
-fused_finite f nan y z t = absurd t
-fused_finite f (inf s) y z t = absurd t
-fused_finite f (fin s m e) nan z t = absurd t
-fused_finite f (fin s m e) (inf u) z t = absurd t
-fused_finite f (fin s m e) (fin u n d) nan t = absurd t
-fused_finite f (fin s m e) (fin u n d) (inf v) t = absurd t
 fused_finite f (fin s m e) (fin u n d) (fin v k g) t =
     let x = fin s m e in
     let y = fin u n d in
@@ -307,6 +245,7 @@ fused_finite f (fin s m e) (fin u n d) (fin v k g) t =
       zero = λ o. zero_sum f (unlike s u) (m * up e * (n * up d) * down g) v (k * up g * (down e * down d)) (down e * down d * down g) (mul-pos (mul-pos (down_pos e) (down_pos d)) (down_pos g))
           (ap₂ (λ (x y : ℤ). x +ℤ y) (sym (signed_scale (unlike s u) (m * up e * (n * up d)) (down g)) ∙ ap (λ (q : ℤ). q *ℤ pos (down g)) (sym (signed_mul s u (m * up e) (n * up d)))) (sym (signed_scale v (k * up g) (down e * down d))) ∙ same_zero (plus (times (value x) (value y)) (value z)) o);
     }
+fused_finite _ _ _ _ t = absurd t
 
 pub multiply_adds_lem : MultiplyAdds
 multiply_adds_lem f x y z = record {
@@ -320,21 +259,18 @@ multiply_adds_lem f x y z = record {
 -- ---- a format to another
 narrow_finite : (f : Format) (x : Float) → T (finite x) → Rounded f (sign x) (value x) (round_to_format f x)
 unfolding round_to_format
-narrow_finite f nan t = absurd t
-narrow_finite f (inf s) t = absurd t
 narrow_finite f (fin s m e) t = round_stands f s (m * up e) (down e) (down_pos e)
+narrow_finite _ _ t = absurd t
 
 narrow_nan : (f : Format) (x : Float) → T (is_nan x) → round_to_format f x ≡ nan
 unfolding round_to_format is_nan
 narrow_nan f nan t = refl
-narrow_nan f (inf s) t = absurd t
-narrow_nan f (fin s m e) t = absurd t
+narrow_nan _ _ t = absurd t
 
 narrow_infinite : (f : Format) (x : Float) → T (infinite x) → round_to_format f x ≡ x
 unfolding round_to_format
-narrow_infinite f nan t = absurd t
 narrow_infinite f (inf s) t = refl
-narrow_infinite f (fin s m e) t = absurd t
+narrow_infinite _ _ t = absurd t
 
 pub conversions : Conversions
 conversions f x = record { nan_in = narrow_nan f x; infinite_in = narrow_infinite f x; finite_in = narrow_finite f x }

@@ -1,14 +1,15 @@
 -- Roundings whose errors are told in parts of a number h between 2 ^ -160 and 2 ^ 160.
 use Rattle.std.proofs.Common.{◌^◌, T, [], ◌∷◌, refl, subst, lit≤}
-use lib.Ieee.{Float, binary64, mul}
-use lib.Ieee.Scale.{finite}
+use Rattle.std.specs.Float.{Float, binary64}
+use Rattle.std.specs.Float.Ieee.{mul}
+use Rattle.std.specs.Float.Ieee.Scale.{finite}
 use Rattle.exact.proofs.Ring.{◌⊕◌, ◌⊖◌, ◌⊗◌, ⊝, norm}
 use Rattle.exact.proofs.Integer.{x₀, x₁, x₂, x₃, x₄, x₅}
 use Rattle.exact.proofs.Rational.{ℚ, ◌+q◌, ◌*q◌, -q◌, ◌-q◌, qring}
 use Rattle.exact.proofs.Order.{nn, nn_add, ◌≤q◌, le_by, q_refl, q_trans, q_add, q_mul}
 use Rattle.exact.proofs.Bound.{ofℕ, Bound, bound_more}
 use Rattle.rounding.specs.Ranges.{Permitted}
-use Rattle.rounding.proofs.Fractions.{dy}
+use Rattle.exact.proofs.Compare.{dy}
 use Rattle.rounding.proofs.Value.{val, mul_rounds}
 use Rattle.rounding.proofs.Error.{eps, tiny, round_err}
 use Rattle.rounding.proofs.MultiplyAdd.{slip, slip₂, slip_mono, fma_err}

@@ -1,35 +1,32 @@
 -- Two results of numbers that are both within e of v: equal, or neighbouring with v within e of their midpoint.
 use Rattle.std.proofs.Common.{◌≡◌, ℕ, ◌+◌, ◌*◌, ◌^◌, ◌<◌, ◌≤◌, Bool, true, false, not, T, eqb, ◌⊎◌, [], ◌∷◌, ℤ, pos, ◌+ℤ◌, ◌*ℤ◌, sym, refl, ap, ◌∙◌, subst, ap₂, inl, inr, true≢false, le_of_lt, mul-le-mul_right, zero-lt-suc, eq-zero-or-pos, mul-pos, zero-mul, arith, pow_pos}
-use native.Mathlib.Nat.{eq_of_mul-eq-mul_right}
-use lib.Dec.{not_T}
-use lib.Signed.{le_z}
-use lib.Ieee.{Float, nan, inf, fin, Format, low, up, down}
-use lib.Ieee.Fits.{up_pos}
-use lib.Ieee.Exact.{HasValue}
-use lib.Ieee.Scale.{grid, finite}
+use Rattle.std.specs.Int.Signed.{le_z}
+use Rattle.std.specs.Float.{Float, fin, Format}
+use Rattle.std.specs.Float.Ieee.{low, up, down}
+use Rattle.std.specs.Float.Ieee.Fits.{up_pos}
+use Rattle.std.specs.Float.Ieee.Exact.{HasValue}
+use Rattle.std.specs.Float.Ieee.Scale.{grid, finite}
+use Rattle.std.proofs.Math.Nat.{eq_of_mul-eq-mul_right}
+use Rattle.std.proofs.Math.Dec.{not_T}
 use borrow.Author.Differences.{product_is, le_T, le_in}
 use std.Quotient.{cls}
 use Rattle.exact.specs.Fraction.{Fraction, plus, apart}
-use Rattle.exact.proofs.Ring.{con, ◌⊕◌, ◌⊖◌, ◌⊗◌, ⊝, norm}
+use Rattle.exact.proofs.Ring.{con, ◌⊕◌, ◌⊖◌, ◌⊗◌, ⊝, norm, var}
 use Rattle.exact.proofs.Integer.{x₀, x₁, x₂, x₃, x₄, x₅}
-use Rattle.exact.proofs.Rational.{ℚ, ◌+q◌, ◌*q◌, -q◌, ◌-q◌, ofℤ, qring}
-use Rattle.exact.proofs.Order.{nn, nn_add, ◌≤q◌, le_by, q_refl, q_trans, q_add, q_mul, q_antisym}
-use Rattle.exact.proofs.Bound.{ofℕ, inv, Bound, absq, bound_abs, pick}
+use Rattle.exact.proofs.Rational.{ℚ, ◌+q◌, ◌*q◌, -q◌, ◌-q◌, ofℤ, qring, add_commq}
+use Rattle.exact.proofs.Order.{nn, nn_add, ◌≤q◌, le_by, q_refl, q_trans, q_add, q_mul, q_antisym, q_total}
+use Rattle.exact.proofs.Bound.{ofℕ, inv, Bound, absq, bound_abs, pick, inv_mul, nn_inv}
 use Rattle.rounding.specs.Values.{signed, value, is_zero, ◌≺◌}
 use Rattle.rounding.specs.Units.{unit}
-use Rattle.rounding.specs.Nearest.{Next, Neighbouring, Best, Nearest}
+use Rattle.rounding.specs.Nearest.{Next, Neighbouring, Best, Nearest, Held}
 use Rattle.rounding.specs.Errors.{middle, Pair, equal, zeros, beside, TwoFigures}
 use borrow.Author.Differences as D
-use Rattle.exact.proofs.Ring.{var}
-use Rattle.exact.proofs.Rational.{add_commq}
-use Rattle.exact.proofs.Bound.{inv_mul, nn_inv}
-use Rattle.rounding.specs.Nearest.{Held}
 use Rattle.rounding.proofs.Gaps as Gaps
-use Rattle.rounding.proofs.Fractions.{frac, fr, frac_over, leq_in, frac_le_out, not_above, size_out}
+use Rattle.exact.proofs.Compare.{fr, leq_in}
+use Rattle.rounding.proofs.Fractions.{frac, frac_over, frac_le_out, not_above, size_out}
 use Rattle.rounding.proofs.Value.{val_value, value_is}
 use Rattle.rounding.proofs.Narrow.{unit_of, midpoint}
 use Rattle.rounding.proofs.Held.{digits}
-use Rattle.rounding.proofs.Limit.{q_total}
 use Rattle.rounding.proofs.Distance.{at_most_in, at_most_out, apart_cls, within_in, within_out}
 use Rattle.rounding.proofs.UnitInLastPlace.{unit_is}
 use Rattle.rounding.proofs.NearestResult.{finite_or_infinite, nearest_result, one_float}
@@ -170,12 +167,11 @@ unfolding ◌+q◌
 plus_is e = refl
 
 zero_value : (x : Float) (t : Bool) (g l : ℕ) → 0 < l → HasValue x t g l → g ≡ 0 → T (is_zero x)
-zero_value nan t g l L h z = absurd h
-zero_value (inf s) t g l L h z = absurd h
 zero_value (fin s m d) t g l L h z = subst (λ (k : ℕ). T (eqb k 0)) (sym (none m (up d) l (up_pos d) L (h.1 ∙ ap (λ (k : ℕ). k * down d) z ∙ zero-mul (down d)))) tt
   where
     none : (m a l : ℕ) → 0 < a → 0 < l → m * a * l ≡ 0 → m ≡ 0
     none m a l A L e = elim (eq-zero-or-pos m) [ inl z ↦ z | inr p ↦ let q : 0 < m * a * l = mul-pos (mul-pos p A) L in absurd (omega arith) ]
+zero_value _ _ _ _ _ h _ = absurd h
 
 best_of : (f : Format) (q : Fraction) (x : Float) → Nearest f q x → T (finite x) → Best f q x
 best_of f q x n t = n.otherwise (λ h. finite_or_infinite x t (n.overflows h))
@@ -205,29 +201,16 @@ same_figure f z z' e x y g k t u a b hx hy s =
     same_sign true false = inr refl
     same_sign true true = inl refl
 
+    none : (g l : ℕ) (L : 0 < l) → frac true g l L ≡ frac false g l L → g ≡ 0
+    none g l L e =
+        let h : g * 1 ≤ 0 * l = unfold ofℤ nn in frac_le_out g l 0 1 L (zero-lt-suc 0) (subst (λ (z : ℚ). z ≤q ofℤ (pos 0)) e (not_above g l L (ofℤ (pos 0)) tt)) in
+        omega arith
+
     opposite_zero : (t u : Bool) → t ≡ not u → (g l : ℕ) (L : 0 < l) → frac t g l L ≡ frac u g l L → g ≡ 0
     opposite_zero false false w g l L e = absurd (true≢false (sym w))
     opposite_zero true true w g l L e = absurd (true≢false w)
-    opposite_zero false true w g l L e = half_none g l L (below_zero g l L (subst (λ (z : ℚ). z ≤q ofℤ (pos 0)) (sym e) (not_above g l L (ofℤ (pos 0)) nought)))
-      where
-        nought : T (nn (ofℤ (pos 0)))
-        nought = unfold nn ofℤ in tt
-
-        below_zero : (g l : ℕ) (L : 0 < l) → frac false g l L ≤q ofℤ (pos 0) → g * 1 ≤ 0 * l
-        below_zero g l L h = unfold ofℤ in frac_le_out g l 0 1 L (zero-lt-suc 0) h
-
-        half_none : (g l : ℕ) → 0 < l → g * 1 ≤ 0 * l → g ≡ 0
-        half_none g l L h = omega arith
-    opposite_zero true false w g l L e = half_none g l L (below_zero g l L (subst (λ (z : ℚ). z ≤q ofℤ (pos 0)) e (not_above g l L (ofℤ (pos 0)) nought)))
-      where
-        nought : T (nn (ofℤ (pos 0)))
-        nought = unfold nn ofℤ in tt
-
-        below_zero : (g l : ℕ) (L : 0 < l) → frac false g l L ≤q ofℤ (pos 0) → g * 1 ≤ 0 * l
-        below_zero g l L h = unfold ofℤ in frac_le_out g l 0 1 L (zero-lt-suc 0) h
-
-        half_none : (g l : ℕ) → 0 < l → g * 1 ≤ 0 * l → g ≡ 0
-        half_none g l L h = omega arith
+    opposite_zero false true w g l L e = none g l L (sym e)
+    opposite_zero true false w g l L e = none g l L e
 
 pub figures : (f : Format) (q p : Fraction) (v e : ℚ) (x y : Float) → Nearest f q x → Nearest f p y → T (finite x) → T (finite y) → Bound (cls q -q v) e → Bound (cls p -q v) e
     → (cls (unit f x) ≤q e +q e → ⊥) → (cls (unit f y) ≤q e +q e → ⊥) → Figures f (cls q) (cls p) e x y

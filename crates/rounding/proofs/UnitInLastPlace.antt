@@ -1,15 +1,15 @@
 -- The unit of a figure: its exponent is what it is called, and in smallest values the unit is 2 ^ (digits - prec), at least one.
 use Rattle.std.proofs.Common.{◌≡◌, ℕ, zero, suc, ◌+◌, ◌-◌, ◌*◌, ◌^◌, ◌<◌, ◌≤◌, Bool, true, false, cond, not, T, leb, ℤ, pos, negsuc, ◌+ℤ◌, ◌-ℤ◌, neg_ℤ, sym, refl, ap, ◌∙◌, subst, inl, inr, le_trans, le_of_eq, mul-le-mul_right, zero-lt-suc, eq-zero-or-pos, mul-lt-mul_of_pos_right, mul-pos, zero-mul, mul-one, not-le_of_lt, le_of_mul-le-mul_right, arith, le→leb, leb→le, pow_pos, pow-add}
-use native.Mathlib.Nat.{eq_of_mul-eq-mul_right}
-use lib.Signed.{le_z}
-use lib.Ieee.{of_bits, Float, nan, inf, fin, Format, prec, low, up, down, size}
-use lib.Ieee.Digits.{size-lt, size-le, size_reaches}
-use lib.Ieee.Fits.{two, up_pos, down_pos}
-use lib.Ieee.Exact.{HasValue}
-use borrow.Author.Differences.{ints}
+use Rattle.std.specs.Int.Signed.{le_z, le_z_yes}
+use Rattle.std.specs.Float.Ieee.{of_bits, prec, low, up, down, size}
+use Rattle.std.specs.Float.{Float, nan, inf, fin, Format}
+use Rattle.std.specs.Float.Ieee.Digits.{size-lt, size-le, size_reaches}
+use Rattle.std.specs.Float.Ieee.Fits.{two, up_pos, down_pos}
+use Rattle.std.specs.Float.Ieee.Exact.{HasValue}
+use Rattle.std.proofs.Math.Nat.{eq_of_mul-eq-mul_right}
+use Rattle.std.proofs.lemmas.Int.{ints}
 use std.Quotient.{cls}
 use Rattle.rounding.specs.Units.{UnitExamples, power, larger, exponent, unit, ExponentBounds}
-use lib.Signed.{le_z_yes}
 use Rattle.rounding.proofs.Fractions.{frac, frac_same}
 use Rattle.rounding.proofs.Narrow.{unit_of, size_gt}
 use Rattle.rounding.proofs.Distance.{signed_abs}
@@ -21,10 +21,7 @@ two_power (pos k) a l h =
     sym (pow-add 2 k l) ∙ ap (λ (z : ℕ). 2 ^ z) q ∙ sym (mul-one (2 ^ a))
 two_power (negsuc k) a l h =
     let q : l ≡ a + suc k = omega (arith, ints) in
-    one (2 ^ l) ∙ ap (λ (z : ℕ). 2 ^ z) q ∙ pow-add 2 a (suc k)
-  where
-    one : (x : ℕ) → 1 * x ≡ x
-    one x = omega arith
+    (omega arith) ∙ ap (λ (z : ℕ). 2 ^ z) q ∙ pow-add 2 a (suc k)
 
 -- every e is such a difference
 record Shift (e : ℤ) : Type 0 where
@@ -94,24 +91,18 @@ module _ (m : ℕ) (e : ℤ) (P : 0 < m) where
 pub exponent_bounds_lem : ExponentBounds
 exponent_bounds_lem s m e P =
     let E = exponent m e in (
-      le_z_yes (subst (λ (n : ℕ). T (leb (up E * down e) (n * down E))) (sym (signed_abs s (m * up e))) (le→leb (up E * down e) (m * up e * down E) (at_least m e P (size m - 1) (up E) (down E) (up e) (down e) (size_reaches m (size m - 1) (pred (size m) (size_pos m P))) (low_power m e P) (own_power m e P)))),
+      le_z_yes (subst (λ (n : ℕ). T (leb (up E * down e) (n * down E))) (sym (signed_abs s (m * up e))) (le→leb (up E * down e) (m * up e * down E) (at_least m e P (size m - 1) (up E) (down E) (up e) (down e) (size_reaches m (size m - 1) (omega (arith, size_pos m P))) (low_power m e P) (own_power m e P)))),
       λ h. below m e P (size m) (up (E +ℤ pos 1)) (down (E +ℤ pos 1)) (up e) (down e) (down_pos (E +ℤ pos 1)) (down_pos e) (size-lt m) (high_power m e P) (own_power m e P)
           (leb→le _ _ (subst (λ (n : ℕ). T (leb (up (E +ℤ pos 1) * down e) (n * down (E +ℤ pos 1)))) (signed_abs s (m * up e)) h.le)),
     )
-  where
-    pred : (z : ℕ) → 0 < z → z - 1 < z
-    pred z h = omega arith
 
 -- ---- the unit in smallest values: 2 ^ (digits - prec) of them, and at least one
 pub size_shift : (n k : ℕ) → 0 < n → size (n * 2 ^ k) ≡ size n + k
 size_shift n k P =
     let h = size_pos n P in
     let a = size-le (n * 2 ^ k) (size n + k) (subst (λ (z : ℕ). n * 2 ^ k < z) (sym (pow-add 2 (size n) k)) (mul-lt-mul_of_pos_right (size-lt n) (pow_pos k))) in
-    let b = size_gt (n * 2 ^ k) (size n - 1 + k) (le_trans (le_of_eq (pow-add 2 (size n - 1) k)) (mul-le-mul_right (2 ^ k) (size_reaches n (size n - 1) (pred (size n) h)))) in
+    let b = size_gt (n * 2 ^ k) (size n - 1 + k) (le_trans (le_of_eq (pow-add 2 (size n - 1) k)) (mul-le-mul_right (2 ^ k) (size_reaches n (size n - 1) (omega arith)))) in
     omega arith
-  where
-    pred : (z : ℕ) → 0 < z → z - 1 < z
-    pred z h = omega arith
 
 as_units : (E : ℤ) (k l : ℕ) → E +ℤ pos l ≡ pos k → cls (power E) ≡ frac false (2 ^ k) (2 ^ l) (pow_pos l)
 as_units E k l h = frac_same false (up E) (down E) (2 ^ k) (2 ^ l) (down_pos E) (pow_pos l) (two_power E k l h)

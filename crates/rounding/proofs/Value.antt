@@ -1,12 +1,12 @@
 -- The number of a finite float as a rational, and what each operation rounds: its exact result, once.
 use Rattle.std.proofs.Common.{◌≡◌, ℕ, ◌+◌, ◌-◌, ◌*◌, ◌<◌, ◌≤◌, Bool, true, false, cond, not, ◌&&◌, T, ltb, sym, refl, ap, ◌∙◌, subst, ap₂, mul_assoc, mul_comm, mul-pos, mul_left_comm, arith, ltb→lt, nltb→le}
-use lib.Ieee.{Float, nan, inf, fin, Format, up, down, unlike, round, sum, add, mul}
-use lib.Ieee.Fits.{down_pos}
-use lib.Ieee.Exact.{HasValue}
-use lib.Ieee.Scale.{finite}
-use borrow.Author.Differences.{ints}
+use Rattle.std.specs.Float.{Float, nan, inf, fin, Format, float_mul_add}
+use Rattle.std.specs.Float.Ieee.{up, down, unlike, round, sum, add, mul}
+use Rattle.std.specs.Float.Ieee.Fits.{down_pos}
+use Rattle.std.specs.Float.Ieee.Exact.{HasValue}
+use Rattle.std.specs.Float.Ieee.Scale.{finite}
+use Rattle.std.proofs.lemmas.Int.{ints}
 use std.Quotient.{cls}
-use Rattle.std.specs.Float.{float_mul_add, round_to_format}
 use Rattle.exact.proofs.Rational.{ℚ, ◌+q◌, ◌*q◌}
 use Rattle.rounding.specs.Values.{value}
 use Rattle.rounding.proofs.Fractions.{frac, frac_mul, frac_over, minus_pos, minus_neg, same_num, frac_same}
@@ -22,9 +22,8 @@ val_value x = refl
 -- x has the sign s and is g / l in size
 pub value_is : (x : Float) (s : Bool) (g l : ℕ) (L : 0 < l) → HasValue x s g l → val x ≡ frac s g l L
 unfolding val
-value_is nan s g l L v = absurd v
-value_is (inf t) s g l L v = absurd v
 value_is (fin t m e) s g l L v = frac_same t (m * up e) (down e) g l (down_pos e) L v.1 ∙ ap (λ (b : Bool). frac b g l L) v.0
+value_is _ _ _ _ _ v = absurd v
 
 pub finite_is : (x : Float) (s : Bool) (g l : ℕ) → HasValue x s g l → T (finite x)
 finite_is nan s g l v = v
@@ -42,8 +41,6 @@ pub record Rounds (f : Format) (x : Float) (q : ℚ) : Type 0 where
 
 pub mul_rounds : (f : Format) (x y : Float) → T (finite x) → T (finite y) → Rounds f (mul f x y) (val x *q val y)
 unfolding mul val
-mul_rounds f nan y h k = absurd h
-mul_rounds f (inf s) y h k = absurd h
 mul_rounds f (fin s m e) nan h k = absurd k
 mul_rounds f (fin s m e) (inf t) h k = absurd k
 mul_rounds f (fin s m e) (fin t n d) h k = record {
@@ -54,6 +51,7 @@ mul_rounds f (fin s m e) (fin t n d) h k = record {
   how = refl;
   what = frac_mul s t (m * up e) (n * up d) (down e) (down d) (down_pos e) (down_pos d);
 }
+mul_rounds _ _ _ h _ = absurd h
 
 sum_rounds : (f : Format) (s : Bool) (a : ℕ) (t : Bool) (b c : ℕ) (C : 0 < c) → Rounds f (sum f s a t b c) (frac s a c C +q frac t b c C)
 unfolding sum
@@ -76,8 +74,6 @@ sum_rounds f true a false b c C = go (ltb a b) (ltb→lt a b) (nltb→le a b)
 
 pub add_rounds : (f : Format) (x y : Float) → T (finite x) → T (finite y) → Rounds f (add f x y) (val x +q val y)
 unfolding add val
-add_rounds f nan y h k = absurd h
-add_rounds f (inf s) y h k = absurd h
 add_rounds f (fin s m e) nan h k = absurd k
 add_rounds f (fin s m e) (inf t) h k = absurd k
 add_rounds f (fin s m e) (fin t n d) h k =
@@ -88,11 +84,10 @@ add_rounds f (fin s m e) (fin t n d) h k =
     (frac_same s (m * up e * down d) (down e * down d) (m * up e) (down e) (mul-pos E F) E (simp (mul_assoc, mul_comm, mul_left_comm)))
     (frac_same t (n * up d * down e) (down e * down d) (n * up d) (down d) (mul-pos E F) F (simp (mul_assoc, mul_comm, mul_left_comm))))
     (sum_rounds f s (m * up e * down d) t (n * up d * down e) (down e * down d) (mul-pos E F))
+add_rounds _ _ _ h _ = absurd h
 
 pub fused_rounds : (f : Format) (x y z : Float) → T (finite x) → T (finite y) → T (finite z) → Rounds f (float_mul_add f x y z) (val x *q val y +q val z)
 unfolding float_mul_add val
-fused_rounds f nan y z h k l = absurd h
-fused_rounds f (inf s) y z h k l = absurd h
 fused_rounds f (fin s m e) nan z h k l = absurd k
 fused_rounds f (fin s m e) (inf t) z h k l = absurd k
 fused_rounds f (fin s m e) (fin t n d) nan h k l = absurd l
@@ -108,9 +103,4 @@ fused_rounds f (fin s m e) (fin t n d) (fin u i g) h k l =
     (frac_same (unlike s t) (a * down g) (down e * down d * down g) a (down e * down d) P (mul-pos E F) (simp (mul_assoc, mul_comm, mul_left_comm)) ∙ sym (frac_mul s t (m * up e) (n * up d) (down e) (down d) E F))
     (frac_same u (i * up g * (down e * down d)) (down e * down d * down g) (i * up g) (down g) P H (simp (mul_assoc, mul_comm, mul_left_comm))))
     (sum_rounds f (unlike s t) (a * down g) u (i * up g * (down e * down d)) (down e * down d * down g) P)
-
-pub narrowing_rounds : (f : Format) (x : Float) → T (finite x) → Rounds f (round_to_format f x) (val x)
-unfolding round_to_format val
-narrowing_rounds f nan h = absurd h
-narrowing_rounds f (inf s) h = absurd h
-narrowing_rounds f (fin s m e) h = record { s = s; a = m * up e; c = down e; ok = down_pos e; how = refl; what = refl }
+fused_rounds _ _ _ _ h _ _ = absurd h

@@ -1,27 +1,27 @@
 -- Rounding to a whole number, halves away from zero, is what IEEE 754-2019 says of it.
 use Rattle.std.proofs.Common.{◌≡◌, ℕ, suc, ◌+◌, ◌*◌, ◌/◌, ◌%◌, ◌<◌, ◌≤◌, Bool, false, T, ℤ, pos, ◌*ℤ◌, sym, refl, ap, ◌∙◌, subst, inl, inr, mul-le-mul_right, mod-lt, zero-lt-suc, div-add-mod', mul-one, arith}
-use lib.Ieee.{Float, nan, inf, fin, Format, up, down, fits}
-use lib.Ieee.Fits.{down_pos}
-use lib.Ieee.Exact.{HasValue}
+use Rattle.std.specs.Float.{Float, nan, inf, fin, Format, ratio_round_half_up, round_with, float_round}
+use Rattle.std.specs.Float.Ieee.{up, down, fits, is_nan}
+use Rattle.std.specs.Float.Ieee.Fits.{down_pos}
+use Rattle.std.specs.Float.Ieee.Exact.{HasValue}
+use Rattle.std.proofs.lemmas.Bool.{cases_lt}
 use std.Quotient.{cls}
-use Rattle.std.specs.Float.{ratio_round_half_up, round_with, float_round}
 use Rattle.exact.specs.Fraction.{integer, absolute, apart, ◌≼◌}
 use Rattle.exact.proofs.Rational.{ℚ, is}
 use Rattle.exact.proofs.Order.{◌≤q◌}
 use Rattle.exact.proofs.Bound.{absq}
 use Rattle.rounding.specs.Values.{signed, value, infinite}
 use Rattle.rounding.specs.Operations.{WholeNearest, WholeNumbers}
-use lib.Ieee.{is_nan}
 use Rattle.rounding.specs.Nearest.{Held}
 use Rattle.rounding.proofs.Fractions.{frac, frac_le, sign_size}
 use Rattle.rounding.proofs.Value.{val_value, value_is, finite_is}
-use Rattle.rounding.proofs.Best.{half_best, dist, order}
+use Rattle.rounding.proofs.Best.{half_best, dist}
 use Rattle.rounding.proofs.Distance.{at_most_in, same_number, abs_cls, abs_frac, apart_le, gap, sfrac, nearer_in, nearer_out}
 use Rattle.rounding.proofs.NearestValue.{sign_of_value, same_nearer, tie_nearer}
 use Rattle.rounding.proofs.WholeNumber.{half_up, away_value, away_fits}
 
 away_largest : (n d k : ℕ) → 0 < d → dist (k * d) n ≤ dist (ratio_round_half_up n d * d) n → k ≤ ratio_round_half_up n d
-away_largest n d k D h = elim (order (ratio_round_half_up n d) k) [
+away_largest n d k D h = elim (cases_lt (ratio_round_half_up n d) k) [
   | inl l ↦
       let K = (2 * n + d) / (2 * d) in
       let r = (2 * n + d) % (2 * d) in
@@ -100,14 +100,12 @@ away_finite f (fin s m e) h = whole_nearest f s m e h.is_held
 away_nan : (f : Format) (x : Float) → T (is_nan x) → float_round f x ≡ nan
 unfolding round_with is_nan
 away_nan f nan t = refl
-away_nan f (inf s) t = absurd t
-away_nan f (fin s m e) t = absurd t
+away_nan _ _ t = absurd t
 
 away_infinite : (f : Format) (x : Float) → T (infinite x) → float_round f x ≡ x
 unfolding round_with
-away_infinite f nan t = absurd t
 away_infinite f (inf s) t = refl
-away_infinite f (fin s m e) t = absurd t
+away_infinite _ _ t = absurd t
 
 pub whole_numbers : WholeNumbers
 whole_numbers f x = record { nan_in = away_nan f x; infinite_in = away_infinite f x; finite_in = away_finite f x }
