@@ -4,7 +4,7 @@ ghost use Rattle.cards.specs.Format.{Room, Spell};
 
 use crate::card::NoRoom;
 
-// Operation 2 bits, code 2, peg 12, value 32.
+// Operation 2 bits, code 2, peg 12, value 32: plain numbers, as the format has them. What they mean is a `Card`.
 #[derive(Clone, Copy)]
 pub(crate) struct Fields {
     pub(crate) operation: u8,

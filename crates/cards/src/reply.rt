@@ -4,6 +4,7 @@ ghost use Rattle.cards.specs.Format.{reply_of, RepliesTell};
 
 use sheet::fault::Fault;
 
+// A function: neither type is this crate's, and so no From can stand here.
 pub fn reply(answer: Result<u32, Fault>) -> [u8; 5]
     ensures { result ≡ reply_of answer }
 {

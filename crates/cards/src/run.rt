@@ -89,7 +89,7 @@ impl OpenRun {
 }
 
 impl ClosedRun {
-    // Cards taken, cards refused and pegs worked, the most significant byte first.
+    // Cards taken, cards refused and pegs worked, the most significant byte first. By this name, since the rules say that a run tells them.
     pub fn told(self) -> [u8; 8]
         ensures { result ≡ count_bytes self.counts }
     {

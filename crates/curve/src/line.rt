@@ -60,7 +60,7 @@ fn read_query(line: &str) -> Result<Query, Mistake<'_>> {
     })
 }
 
-// The question on a line of bytes.
+// The question on a line of bytes. `replay` has its own: what reads either line differs, and the rest is two lines.
 pub fn read_bytes(line: &[u8]) -> Result<Query, Mistake<'_>> {
     let text = std::str::from_utf8(line).map_err(|_| Mistake::NotText)?;
     read_query(text)

@@ -36,6 +36,7 @@ pub fn exp_b_range_reduc<B: ExpfBackend>(arith: &B, x: f32) -> ExpBReduc
     }
 }
 
+// Another polynomial than exp2's: what the two share is one line.
 fn exp10_small<B: ExpfBackend>(arith: &B, x: f32) -> f32
     ensures { result ≡ exp10_small_value (B.ExpfBackend.meaning arith.now) x }
 {
@@ -60,6 +61,7 @@ fn exp10_small<B: ExpfBackend>(arith: &B, x: f32) -> f32
     narrow(arith.fma(p, xd, 1.0))
 }
 
+// As exp2's but for the reduction: what the two share is `times_power`.
 fn exp10_table<B: ExpfBackend>(arith: &B, x: f32) -> f32
     ensures { result ≡ exp10_table_value (B.ExpfBackend.meaning arith.now) x }
 {

@@ -11,6 +11,7 @@ use arithmetic::ExpfBackend;
 use fast::{narrow, to_i32};
 use std::num::{f32_to_f64_with_nan, f64_from_bits_with_nan};
 
+// Another polynomial than exp10's: what the two share is one line.
 fn exp2_small<B: ExpfBackend>(arith: &B, x: f32) -> f32
     ensures { result ≡ exp2_small_value (B.ExpfBackend.meaning arith.now) x }
 {
@@ -33,6 +34,7 @@ fn exp2_small<B: ExpfBackend>(arith: &B, x: f32) -> f32
     narrow(arith.fma(p, xd, 1.0))
 }
 
+// As exp10's but for the reduction: what the two share is `times_power`.
 fn exp2_table<B: ExpfBackend>(arith: &B, x: f32) -> f32
     ensures { result ≡ exp2_table_value (B.ExpfBackend.meaning arith.now) x }
 {

@@ -33,6 +33,7 @@ fn expm1_small<B: ExpfBackend>(arith: &B, x: f32) -> f32
     narrow(arith.fma(p, xd * xd, xd))
 }
 
+// Another last step than exp's: what the two share is `factors`.
 fn expm1_tables<B: ExpfBackend>(arith: &B, input: Reaching) -> f32
     ensures { result ≡ expm1_tables_value (B.ExpfBackend.meaning arith.now) input.x }
 {

@@ -35,6 +35,8 @@ pub(crate) trait Table {
     ghost number: { (i : ℕ) (y : Float) → near i y → T (finite y) };
 }
 
+// Each table has an `entry` of its own: that an entry is near its power is proved of one table by name, and a law of the trait could not cite it.
+
 // e^(i - 104)
 pub(crate) struct ExpWhole {}
 

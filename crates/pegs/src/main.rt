@@ -21,6 +21,7 @@ fn next_card<'a, R: Read>(input: &mut R, buffer: &'a mut [u8; CARD_SIZE]) -> io:
     ensures bytes { IfOk result (λ card. Consumes (R.remaining input.old) (R.remaining input.new) card.now) }
     ensures short { IfOk result (λ card. length card.now < 6 → IsAtEnd (R.remaining input.new)) }
 {
+    // by hand: a read may give fewer bytes than are asked for, and read_exact says not how many a short card has
     let mut filled = 0;
     while filled < CARD_SIZE {
         let n = input.read(&mut buffer[filled..])?;
@@ -41,6 +42,7 @@ fn play_all(
 ) -> io::Result<()> {
     let arith = GenericExpfBackend {};
     let mut buffer = [0u8; CARD_SIZE];
+    // a bound that no input reaches, since a loop has to end
     for _ in 0..u64::MAX {
         let card = next_card(input, &mut buffer)?;
         if !card.is_empty() {

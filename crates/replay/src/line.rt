@@ -81,6 +81,7 @@ fn read_text(line: &str) -> Result<Recorded, Mistake<'_>> {
     read_words(curve, arithmetic, pattern, theirs)
 }
 
+// In `curve` too, with that program's own words and mistakes: what reads either line differs, and the rest is two lines.
 pub fn read_bytes(line: &[u8]) -> Result<Recorded, Mistake<'_>> {
     let text = std::str::from_utf8(line).map_err(|_| Mistake::NotText)?;
     read_text(text)

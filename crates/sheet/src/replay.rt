@@ -13,7 +13,7 @@ pub fn promise_holds()
     ensures { Promise }
 {}
 
-// A call, but for the sheet and the arithmetic that it is made with.
+// A call, but for the sheet and the arithmetic that it is made with. A code is a number, as in `enter`.
 #[derive(Clone, Copy, Debug, PartialEq)]
 pub enum Command {
     Lay,
