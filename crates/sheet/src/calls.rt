@@ -1,4 +1,4 @@
-// The five calls on a sheet.
+// The five calls on a sheet. Each says what it does and that the promise over every history is kept: two facts, so each stands by its name.
 ghost use Rattle.sheet.specs.Pegs.{Found};
 ghost use Rattle.sheet.specs.Calls.{Does, Sized, laying, entering, working, reading, clearing};
 ghost use Rattle.sheet.specs.Histories.{Kept, Starts};
