@@ -36,6 +36,13 @@ word_of Exp2 = codes "exp2"
 word_of Exp10 = codes "exp10"
 word_of Expm1 = codes "expm1"
 
+-- what is printed where no function has a code, or a word
+abbrev pub words_of_codes : List ℕ
+words_of_codes = codes "the functions have the codes 0 to 3"
+
+abbrev pub words_of_functions : List ℕ
+words_of_functions = codes "the functions are exp, exp2, exp10 and expm1"
+
 -- r is what the text w spells, of the things that have a word, and an error where it spells none
 abbrev pub Spells : {A E : Type 0} → (A → List ℕ) → List ℕ → Result A E → Type 0
 Spells word w (Ok a) = w ≡ word a

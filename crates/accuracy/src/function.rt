@@ -2,7 +2,7 @@
 ghost use Rattle.std.specs.Prelude.{◌≡◌, T, Some};
 ghost use Rattle.std.specs.Float.Ieee.Scale.{finite};
 ghost use Rattle.accuracy.specs.Figures.{figure, Right, Exactly, Special};
-ghost use Rattle.accuracy.specs.Functions.{curve_of, code_of, OnlyFunction, Decoded, word_of, Spells};
+ghost use Rattle.accuracy.specs.Functions.{curve_of, code_of, OnlyFunction, Decoded, word_of, Spells, words_of_codes, words_of_functions};
 
 use arithmetic::ExpfBackend;
 use curves::Curve;
@@ -48,15 +48,13 @@ impl Function {
 
 // A code that no function has.
 #[derive(Clone, Copy, Debug, PartialEq, Eq)]
-pub struct UnknownCode(pub u8);
+pub struct UnknownCode;
 
 impl fmt::Display for UnknownCode {
+    ghost output = { λ _. Some words_of_codes };
+
     fn fmt<W: fmt::Write>(&self, f: &mut fmt::Formatter<W>) -> fmt::Result {
-        write!(
-            f,
-            "no function has the code {}: the codes are 0 to 3",
-            self.0
-        )
+        f.write_str("the functions have the codes 0 to 3")
     }
 }
 
@@ -67,6 +65,8 @@ impl Error for UnknownCode {}
 pub struct UnknownWord;
 
 impl fmt::Display for UnknownWord {
+    ghost output = { λ _. Some words_of_functions };
+
     fn fmt<W: fmt::Write>(&self, f: &mut fmt::Formatter<W>) -> fmt::Result {
         f.write_str("the functions are exp, exp2, exp10 and expm1")
     }
@@ -95,7 +95,7 @@ impl TryFrom<u8> for Function {
             1 => Ok(Function::Exp2),
             2 => Ok(Function::Exp10),
             3 => Ok(Function::Expm1),
-            _ => Err(UnknownCode(code)),
+            _ => Err(UnknownCode),
         }
     }
 }

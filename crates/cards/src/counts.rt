@@ -3,7 +3,7 @@ ghost use Rattle.std.specs.Prelude.{◌≤◌};
 
 // Cards taken, cards refused and pegs worked.
 #[derive(Clone, Copy, Debug, Default, PartialEq, Eq)]
-pub struct Counts {
+pub(crate) struct Counts {
     pub(crate) taken: u16,
     pub(crate) refused: u16,
     pub(crate) worked: u32,

@@ -21,7 +21,7 @@ impl From<[u8; 6]> for Fields {
         let [a, b, c, d, e, f] = bytes;
         Fields {
             operation: a >> 6,
-            code: a >> 4 & 3,
+            code: (a >> 4) & 3,
             peg: u16::from_be_bytes([a & 15, b]),
             value: u32::from_be_bytes([c, d, e, f]),
         }
@@ -46,6 +46,6 @@ impl TryFrom<Fields> for [u8; 6] {
         }
         let [high, low] = peg.to_be_bytes();
         let [c, d, e, f] = value.to_be_bytes();
-        Ok([operation << 6 | code << 4 | high, low, c, d, e, f])
+        Ok([(operation << 6) | (code << 4) | high, low, c, d, e, f])
     }
 }

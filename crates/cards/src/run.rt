@@ -1,28 +1,32 @@
 // An open run takes cards with a sheet and an arithmetic, and counts them.
-ghost use Rattle.std.specs.Prelude.{◌≡◌, ◌<◌, Ok};
-ghost use Rattle.cards.specs.Format.{unpacked, count_bytes};
-ghost use Rattle.cards.specs.Runs.{Plays, Takes, RunsAddUp, none, counted, most_cards};
+ghost use Rattle.std.specs.Prelude.{◌≡◌, ◌<◌};
+ghost use Rattle.arithmetic.specs.Arithmetic.{Arithmetic};
+ghost use Rattle.sheet.specs.Lists.{call_of as called};
+ghost use Rattle.cards.specs.Format.{count_bytes};
+ghost use Rattle.cards.specs.Runs.{Takes, RunsAddUp, call_of, none, counted, most_cards};
 
 use crate::card::Card;
 use crate::counts::{ClosedRun, Counts, OpenRun};
 use arithmetic::ExpfBackend;
-use sheet::calls;
 use sheet::fault::Fault;
 use sheet::peg::Peg;
+use sheet::replay::{Command, perform};
 use std::num::f32_from_bits_with_nan;
 
-impl Card {
-    // Makes the call that the card names.
-    fn play<B: ExpfBackend>(self, sheet: &mut [Peg], arith: &B) -> Result<u32, Fault>
-        ensures { Plays (B.ExpfBackend.meaning arith.now) (Ok self) sheet.old result sheet.new }
-    {
-        match self {
-            Card::Enter { code, peg, value } => {
-                calls::enter(sheet, peg, code, f32_from_bits_with_nan(value))
-            }
-            Card::Work { first, count } => calls::work(sheet, first, count, arith),
-            Card::Read { peg } => calls::read(sheet, peg),
-            Card::Clear { peg } => calls::clear(sheet, peg),
+// The call that the card names.
+impl From<Card> for Command {
+    ghost from_gives = { λ card command. (a : Arithmetic) → called a command ≡ call_of a card };
+
+    fn from(card: Card) -> Command {
+        match card {
+            Card::Enter { code, peg, value } => Command::Enter {
+                peg,
+                code,
+                input: f32_from_bits_with_nan(value),
+            },
+            Card::Work { first, count } => Command::Work { first, count },
+            Card::Read { peg } => Command::Read { peg },
+            Card::Clear { peg } => Command::Clear { peg },
         }
     }
 }
@@ -72,7 +76,7 @@ impl OpenRun {
         let card = Card::try_from(card);
         // A match: of what the closure of an `and_then` does to the sheet nothing is known after it.
         let answer = match card {
-            Ok(card) => card.play(sheet, arith),
+            Ok(card) => perform(sheet, card.into(), arith),
             Err(fault) => Err(fault),
         };
         self.counts = self.counts.counted(card, answer);

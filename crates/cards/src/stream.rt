@@ -10,7 +10,7 @@ pub const CARD_SIZE: usize = 6;
 
 impl OpenRun {
     // Plays the cards of some bytes and puts each reply into a slot: how many there were.
-    // With fewer slots than cards it plays none. The slots are the caller's, since a run has no heap.
+    // With fewer slots than cards it plays none: None, since there is no other reason. The slots are the caller's, since a run has no heap.
     pub fn take_all<B: ExpfBackend>(
         &mut self,
         bytes: &[u8],

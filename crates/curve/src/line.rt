@@ -31,8 +31,8 @@ impl fmt::Display for Mistake<'_> {
 impl<'a> From<UnknownName<'a>> for Mistake<'a> {
     ghost from_gives = { λ name m. m ≡ Name name };
 
-    fn from(name: UnknownName<'a>) -> Mistake<'a> {
-        Mistake::Name(name)
+    fn from(name: UnknownName<'a>) -> Self {
+        Self::Name(name)
     }
 }
 

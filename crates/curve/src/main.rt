@@ -49,7 +49,7 @@ fn answer_all(rt: &HostRuntime) -> io::Result<u64> {
     Ok(wrong)
 }
 
-// In `replay` too: query, which both stand on, reads no command line.
+// In `replay` too: a crate for these lines, since query has no input or output, would be no plainer.
 fn wants_help(rt: &HostRuntime) -> io::Result<bool> {
     Ok(
         env::args(rt)?

@@ -21,6 +21,7 @@ modulo 2^64. The digest of several blocks is the same over their digests, the up
 #[derive(Drop)]
 pub struct Blocks {
     pub numbers: Range<u32>,
+    ghost forward: { numbers.start ≤ numbers.end },
     ghost inside: { numbers.end ≤ 256 },
 }
 

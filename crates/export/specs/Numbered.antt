@@ -1,5 +1,5 @@
 -- The pair that C's two numbers name.
-use Rattle.std.specs.Prelude.{◌≡◌, ℕ, ◌<◌, ◌≤◌, Ok, Err, Result}
+use Rattle.std.specs.Prelude.{◌≡◌, ℕ, ◌<◌, ◌≤◌, List, Ok, Err, codes, Result}
 use Rattle.accuracy.specs.Functions.{code_of}
 use Rattle.query.specs.declared.names.ArithmeticName.{ArithmeticName}
 use Rattle.query.specs.declared.names.ArithmeticName.TheVariants.{TwoStep, Fused}
@@ -17,3 +17,8 @@ abbrev pub NumberedPair : Numbers → Result Pair UnknownNumber → Type 0
 NumberedPair n (Ok p) = (code_of p.curve ≡ n.curve) × (code_of_arithmetic p.arithmetic ≡ n.arithmetic)
 NumberedPair n (Err Curve) = 3 < n.curve
 NumberedPair n (Err Arithmetic) = (n.curve ≤ 3) × (1 < n.arithmetic)
+
+-- what is printed of such a number
+abbrev pub words_of_unknown : UnknownNumber → List ℕ
+words_of_unknown Curve = codes "the curves are 0 to 3"
+words_of_unknown Arithmetic = codes "the arithmetics are 0 and 1"

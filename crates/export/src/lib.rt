@@ -2,9 +2,10 @@
 
 #![tactic(auto)]
 
+ghost use Rattle.std.specs.Prelude.{Some};
 ghost use Rattle.query.specs.Meaning.{value_of};
 ghost use Rattle.export.specs.Answers.{Answered};
-ghost use Rattle.export.specs.Numbered.{NumberedPair};
+ghost use Rattle.export.specs.Numbered.{NumberedPair, words_of_unknown};
 
 use accuracy::function::Function;
 use query::{ArithmeticName, Pair};
@@ -36,6 +37,8 @@ pub enum UnknownNumber {
 }
 
 impl fmt::Display for UnknownNumber {
+    ghost output = { λ unknown. Some (words_of_unknown unknown) };
+
     fn fmt<W: fmt::Write>(&self, f: &mut fmt::Formatter<W>) -> fmt::Result {
         f.write_str(match self {
             UnknownNumber::Curve => "the curves are 0 to 3",
@@ -46,19 +49,17 @@ impl fmt::Display for UnknownNumber {
 
 impl Error for UnknownNumber {}
 
+// The number of a curve is its code.
 impl TryFrom<Numbers> for Pair {
     type Error = UnknownNumber;
 
     ghost try_from_gives = { NumberedPair };
 
     fn try_from(numbers: Numbers) -> Result<Pair, UnknownNumber> {
-        let curve = match numbers.curve {
-            0 => Function::Exp,
-            1 => Function::Exp2,
-            2 => Function::Exp10,
-            3 => Function::Expm1,
-            _ => return Err(UnknownNumber::Curve),
-        };
+        let curve = u8::try_from(numbers.curve)
+            .ok()
+            .and_then(|code| Function::try_from(code).ok())
+            .ok_or(UnknownNumber::Curve)?;
         let arithmetic = match numbers.arithmetic {
             0 => ArithmeticName::TwoStep,
             1 => ArithmeticName::Fused,

@@ -72,6 +72,7 @@ pub extern "C" fn vastulm_expm1_fused(bits: u32) -> u32
     Pair::new(Expm1, Fused).answer_at(bits)
 }
 
+// Numbers in and out: the C interface.
 #[unsafe(no_mangle)]
 pub extern "C" fn vastulm_fill(curve: u32, arithmetic: u32, patterns: &mut [u32]) -> u32
     ensures no_curve { 3 < curve → (result ≡ 1) × (patterns.new ≡ patterns.old) }

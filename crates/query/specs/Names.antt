@@ -11,3 +11,7 @@ arithmetic_of Fused = fusing
 abbrev pub word_of_arithmetic : ArithmeticName → List ℕ
 word_of_arithmetic TwoStep = codes "two-step"
 word_of_arithmetic Fused = codes "fused"
+
+-- what is printed where no arithmetic has a word
+abbrev pub words_of_arithmetics : List ℕ
+words_of_arithmetics = codes "the arithmetics are two-step and fused"

@@ -1,13 +1,13 @@
 // The two arithmetics by name.
 ghost use Rattle.std.specs.Prelude.{Some};
 ghost use Rattle.accuracy.specs.Functions.{Spells};
-ghost use Rattle.query.specs.Names.{word_of_arithmetic};
+ghost use Rattle.query.specs.Names.{word_of_arithmetic, words_of_arithmetics};
 
 use std::error::Error;
 use std::fmt;
 use std::str::FromStr;
 
-#[derive(Clone, Copy, Debug, PartialEq, Eq, PartialOrd, Ord)]
+#[derive(Clone, Copy, Debug, PartialEq, Eq)]
 pub enum ArithmeticName {
     TwoStep,
     Fused,
@@ -22,6 +22,8 @@ impl ArithmeticName {
 pub struct UnknownArithmetic;
 
 impl fmt::Display for UnknownArithmetic {
+    ghost output = { λ _. Some words_of_arithmetics };
+
     fn fmt<W: fmt::Write>(&self, f: &mut fmt::Formatter<W>) -> fmt::Result {
         f.write_str("the arithmetics are two-step and fused")
     }

@@ -1,7 +1,7 @@
 // A curve under an arithmetic.
 ghost use Rattle.std.specs.Prelude.{◌≡◌, Some};
 ghost use Rattle.query.specs.Meaning.{value_of, words_of, answer};
-ghost use Rattle.query.specs.Naming.{Names};
+ghost use Rattle.query.specs.Naming.{Names, words_of_unknown};
 
 use crate::names::ArithmeticName;
 use accuracy::function::Function;
@@ -71,6 +71,8 @@ pub enum UnknownName<'a> {
 }
 
 impl fmt::Display for UnknownName<'_> {
+    ghost output = { λ name. Some (words_of_unknown name) };
+
     fn fmt<W: fmt::Write>(&self, f: &mut fmt::Formatter<W>) -> fmt::Result {
         match self {
             UnknownName::Curve(w) => write!(f, "no curve `{w}`: exp, exp2, exp10 or expm1"),

@@ -77,7 +77,7 @@ fn replay_all(rt: &HostRuntime) -> io::Result<u64> {
     Ok(wrong)
 }
 
-// In `curve` too: query, which both stand on, reads no command line.
+// In `curve` too: a crate for these lines, since query has no input or output, would be no plainer.
 fn wants_help(rt: &HostRuntime) -> io::Result<bool> {
     Ok(
         env::args(rt)?

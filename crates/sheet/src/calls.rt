@@ -1,4 +1,5 @@
-// The five calls on a sheet. Each says what it does and that the promise over every history is kept: two facts, so each stands by its name.
+// The five calls on a sheet. Each says what it does and that the promise over every history is kept: two facts, so each stands by its name. A call
+// that has no number to answer answers 0, as the rules have it.
 ghost use Rattle.sheet.specs.Pegs.{Found};
 ghost use Rattle.sheet.specs.Calls.{Does, Sized, laying, entering, working, reading, clearing};
 ghost use Rattle.sheet.specs.Histories.{Kept, Starts};

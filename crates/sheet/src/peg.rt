@@ -51,10 +51,9 @@ impl Peg {
         ensures { result ≡ worked (B.ExpfBackend.meaning arith.now) self }
     {
         Peg {
-            function: self.function,
-            input: self.input,
             figure: self.function.figure(arith, self.input),
             mark: Mark::Worked,
+            ..self
         }
     }
 

@@ -23,7 +23,7 @@ pub enum Command {
     Clear { peg: u16 },
 }
 
-// Carries out one command. Only a work uses the arithmetic.
+// Carries out one command. Only a work uses the arithmetic, so that it stays a parameter beside the sheet.
 pub fn perform<A: ExpfBackend>(sheet: &mut [Peg], command: Command, arith: &A) -> Result<u32, Fault>
     ensures does { Does sheet.old (call_of (A.ExpfBackend.meaning arith.now) command) result sheet.new }
     ensures kept { Kept sheet.old (call_of (A.ExpfBackend.meaning arith.now) command) result sheet.new }
