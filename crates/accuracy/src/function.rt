@@ -30,7 +30,8 @@ impl Function {
         Function::Expm1,
     ];
 
-    // The figure at x.
+    // The figure at x. Inlined: where the function is known, nothing is left of the match.
+    #[inline(always)]
     pub fn figure<B: ExpfBackend>(self, arith: &B, x: f32) -> f32
         ensures steps { result ≡ figure (curve_of self) (B.ExpfBackend.meaning arith.now) x }
         ensures right { T (finite x) → Right (curve_of self) x result }

@@ -36,7 +36,8 @@ impl Pair {
         })
     }
 
-    // The value at x.
+    // The value at x. Inlined: where the pair is known, nothing is left of the match.
+    #[inline(always)]
     pub fn value(self, x: f32) -> f32
         ensures { result ≡ value_of self x }
     {
