@@ -1,6 +1,6 @@
 //! Each curve near its exact value, for every lawful arithmetic.
 //!
-//! What is promised of a figure stands in specs/. Each function below states in its contract one theorem about a curve's steps.
+//! What is promised of a figure stands in specs/. Each function below states in its contract one theorem about the curves.
 
 #![tactic(auto)]
 

@@ -42,7 +42,8 @@ fn two_step<T: Float>(x: T, y: T, z: T) -> T
     x * y + z
 }
 
-// Two steps everywhere: the product is rounded, and then the sum. Where an impl has a clause of its own, `ieee`, it writes the trait's out too: its clauses take their place.
+// Two steps everywhere: the product is rounded, and then the sum. Where an impl has a clause of its own, `ieee`, it writes the trait's out too: its clauses take their place,
+// and a name for all of them would be no plainer.
 #[derive(Clone, Copy)]
 pub struct GenericExpfBackend {}
 

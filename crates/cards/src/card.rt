@@ -7,7 +7,7 @@ use sheet::fault::Fault;
 use std::error::Error;
 use std::fmt;
 
-// What a card says. A code is a number, as in the call that it names.
+// What a card says. A code is a number, as the format and the call that it names have it.
 #[derive(Clone, Copy, Debug, PartialEq, Eq)]
 pub enum Card {
     Enter { code: u8, peg: u16, value: u32 },

@@ -1,4 +1,4 @@
-// Runs as moved values of plain counts.
+// A run, open and closed, and its counts.
 ghost use Rattle.std.specs.Prelude.{◌≤◌};
 
 // Cards taken, cards refused and pegs worked.

@@ -4,7 +4,7 @@ ghost use Rattle.cards.specs.Format.{reply_of, RepliesTell};
 
 use sheet::fault::Fault;
 
-// A function: neither type is this crate's, and so no From can stand here.
+// A function: neither type is this crate's, so that no From can stand here, and a type for five bytes would be no plainer.
 pub fn reply(answer: Result<u32, Fault>) -> [u8; 5]
     ensures { result ≡ reply_of answer }
 {

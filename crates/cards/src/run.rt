@@ -61,7 +61,7 @@ impl OpenRun {
         }
     }
 
-    // Plays a card on a sheet: its answer, or why it is refused.
+    // Plays a card on a sheet: its answer, or why it is refused. Only a work needs the arithmetic, so that it stays a parameter beside the sheet.
     pub fn take<B: ExpfBackend>(
         &mut self,
         card: &[u8],
@@ -74,7 +74,7 @@ impl OpenRun {
             return Err(Fault::RunFull);
         }
         let card = Card::try_from(card);
-        // A match: of what the closure of an `and_then` does to the sheet nothing is known after it.
+        // A match; `and_then` was tried: of what its closure does to the sheet nothing is known after it.
         let answer = match card {
             Ok(card) => perform(sheet, card.into(), arith),
             Err(fault) => Err(fault),

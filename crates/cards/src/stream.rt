@@ -10,7 +10,8 @@ pub const CARD_SIZE: usize = 6;
 
 impl OpenRun {
     // Plays the cards of some bytes and puts each reply into a slot: how many there were.
-    // With fewer slots than cards it plays none: None, since there is no other reason. The slots are the caller's, since a run has no heap.
+    // With fewer slots than cards it plays none: None, since there is no other reason. The slots are the caller's:
+    // with a Vec a run could fail for want of memory, which the rules do not have.
     pub fn take_all<B: ExpfBackend>(
         &mut self,
         bytes: &[u8],
@@ -25,7 +26,7 @@ impl OpenRun {
         if count > replies.len() {
             return None;
         }
-        // By index: of what an `iter_mut` in a `zip` lends out nothing is known after the loop.
+        // By index; tried: of what an `iter_mut` in a `zip` lends out nothing is known after the loop.
         for (at, card) in cards.enumerate() {
             replies[at] = reply(self.take(card, sheet, arith));
         }

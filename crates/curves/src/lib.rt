@@ -25,7 +25,7 @@ pub trait Curve {
     // from this pattern on a positive input gives infinity
     const OVERFLOW_LIMIT: u32;
 
-    // up to this pattern, with no sign, the input is as good as zero
+    // up to this pattern, or below it, with no sign, the input is as good as zero
     const NEAR_ONE_LIMIT: u32;
 
     ghost curve: { Arithmetic → Float → Float };

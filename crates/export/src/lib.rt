@@ -60,6 +60,7 @@ impl TryFrom<Numbers> for Pair {
             .ok()
             .and_then(|code| Function::try_from(code).ok())
             .ok_or(UnknownNumber::Curve)?;
+        // only C numbers the arithmetics
         let arithmetic = match numbers.arithmetic {
             0 => ArithmeticName::TwoStep,
             1 => ArithmeticName::Fused,

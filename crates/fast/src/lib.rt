@@ -28,7 +28,8 @@ pub fn narrow(x: f64) -> f32
 }
 
 // A float that is worked on by its pattern, which stands in the last bits of a u64. The constants are those of the format.
-pub trait Patterned: Float {
+// Of this crate alone: f32 and f64 are all, and what two of its functions ask is asked of no caller.
+pub(crate) trait Patterned: Float {
     // The sign's bit.
     const SIGN: u64;
 

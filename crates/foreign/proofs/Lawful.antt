@@ -22,9 +22,3 @@ rounded_is f x y r z a l e = rw (z, sym (ap (λ (u : Float). lt u (fin false 1 (
 
 pub left_is : (f : Format) (x y : Float) → eq x zero ≡ false → y ≡ float_with_sign false x → lt y (fin false 1 (pos 22)) ≡ false → x ≡ plain_zero f x
 left_is f x y z a l = rw (z, sym (ap (λ (u : Float). lt u (fin false 1 (pos 22))) a) ∙ l) refl
-
--- 2 ^ 22
-pub limit_is : (f : Format) → of_int f (pos 4194304) ≡ fin false 1 (pos 22)
-unfolding of_int
-limit_is binary32 = refl
-limit_is binary64 = refl

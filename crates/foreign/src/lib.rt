@@ -2,16 +2,15 @@
 
 #![tactic(auto)]
 
-ghost use Rattle.std.specs.Prelude.{◌≡◌, true, false, cond, refl};
+ghost use Rattle.std.specs.Prelude.{◌≡◌, true, false, cond, pos, refl};
 ghost use Rattle.std.proofs.Common.{inl, inr};
 ghost use Rattle.std.specs.Float.Ieee.{lt};
-ghost use Rattle.std.specs.Float.{float_mul_add};
+ghost use Rattle.std.specs.Float.{fin, float_mul_add};
 ghost use Rattle.arithmetic.specs.Arithmetic.{OneOrTwo, two_step};
 ghost use Rattle.foreign.specs.Choosing.{by_order, choosing, plain_zero};
 ghost use Rattle.foreign.specs.Lawful.{lawful_where};
 
 use arithmetic::ExpfBackend;
-use fast::Patterned;
 use num_traits::Float;
 
 // Once where the first factor is below the second, and two steps elsewhere.
@@ -21,13 +20,38 @@ fn by_order<T: Float>(x: T, y: T, z: T) -> T
     if x < y { x.mul_add(y, z) } else { x * y + z }
 }
 
+// A float with 2^22, from which on nothing is rounded.
+trait Limited: Float {
+    const LIMIT: Self;
+
+    ghost LIMIT: { Self };
+
+    ghost limit_law: { Self.float LIMIT ≡ fin false 1 (pos 22) };
+}
+
+impl Limited for f32 {
+    const LIMIT: f32 = 4194304.0;
+
+    ghost LIMIT = { fin false 1 (pos 22) };
+
+    ghost limit_law = { refl };
+}
+
+impl Limited for f64 {
+    const LIMIT: f64 = 4194304.0;
+
+    ghost LIMIT = { fin false 1 (pos 22) };
+
+    ghost limit_law = { refl };
+}
+
 // Either zero gives +0, and from magnitude 2^22 on nothing is rounded.
-fn plain<T: Patterned>(x: T) -> T
+fn plain<T: Limited>(x: T) -> T
     ensures { T.float result ≡ plain_zero T.format (T.float x) }
 {
     if x == T::zero() {
         T::zero()
-    } else if x.abs() < T::from_whole(1 << 22) {
+    } else if x.abs() < T::LIMIT {
         x.round()
     } else {
         x

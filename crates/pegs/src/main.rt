@@ -42,7 +42,7 @@ fn play_all(
 ) -> io::Result<()> {
     let arith = GenericExpfBackend {};
     let mut buffer = [0u8; CARD_SIZE];
-    // a bound that no input reaches, since a loop has to end
+    // By a bound that no input reaches: a loop has to end, and `bytes` has the same bound inside and would be no plainer.
     for _ in 0..u64::MAX {
         let card = next_card(input, &mut buffer)?;
         if !card.is_empty() {
@@ -58,7 +58,7 @@ fn play_all(
 
 fn run(rt: &HostRuntime) -> anyhow::Result<()> {
     let mut pegs = [Peg::blank(); PEGS];
-    let _ = lay(&mut pegs);
+    lay(&mut pegs)?;
     let mut input = BufReader::new(rt.alloc(), rt.stdin())?;
     let mut out = BufWriter::new(rt.alloc(), rt.stdout())?;
     let mut open = OpenRun::open();

@@ -39,7 +39,7 @@ pub fn lay(sheet: &mut [Peg]) -> Result<u32, Fault>
     Ok(n)
 }
 
-// Gives a blank peg a function and an input. The code is a number and no Function: the rules refuse one above 3, so a caller can give it.
+// Gives a blank peg a function and an input. The code is a number, not a `Function`: the rules refuse one above 3, so a caller can give it.
 pub fn enter(sheet: &mut [Peg], peg: u16, code: u8, input: f32) -> Result<u32, Fault>
     ensures does { Does sheet.old (entering peg code input) result sheet.new }
     ensures kept { Kept sheet.old (entering peg code input) result sheet.new }

@@ -38,7 +38,8 @@ pub fn perform<A: ExpfBackend>(sheet: &mut [Peg], command: Command, arith: &A) -
 }
 
 // A command of a list, with its arithmetic, and its answer once it was carried out. Step and TwinStep both stand: one
-// struct, generic in what goes with the command, would call the two sheets 0 and 1, and be no plainer.
+// struct, generic in what goes with the command, would call the two sheets 0 and 1, and be no plainer;
+// so do `replay` and `replay_both`, one list on one sheet and on two.
 #[derive(Clone, Copy)]
 pub struct Step<A> {
     pub command: Command,
