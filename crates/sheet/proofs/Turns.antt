@@ -4,7 +4,7 @@ use borrow.Rule.Slice.PartMut.{put_mid}
 use Rattle.std.proofs.Math.ListN.{get_or-map}
 use Rattle.std.proofs.lemmas.List.{places, get_or_default, take_all, drop_all, length-append, length-take, length-drop, length-map}
 use Rattle.std.proofs.lemmas.List.Edits.{map_over_more}
-use Rattle.std.proofs.lemmas.List.Sums.{count_by-le-length, count_by_more_yes, count_by_more_no}
+use Rattle.std.proofs.lemmas.List.Sums.{count_by_more_yes, count_by_more_no}
 use Rattle.arithmetic.specs.Arithmetic.{Arithmetic}
 use Rattle.sheet.specs.declared.peg.Mark.{Mark}
 use Rattle.sheet.specs.declared.peg.Mark.TheVariants.{Blank, Entered, Worked}
@@ -34,9 +34,6 @@ turn_other a q h = ap (λ b. cond b (worked a q) q) (not_entered q.mark h)
 pub record Turned (a : Arithmetic) (s : Sheet) (i v : ℕ) (t : Sheet) : Type 0 where
   pub pegs : t ≡ map (turn a) (take i s) ++ drop i s
   pub number : v ≡ entries (take i s)
-
-pub turned_few : {a : Arithmetic} {s t : Sheet} {i v : ℕ} → Turned a s i v t → v ≤ i
-turned_few {s = s} {i = i} w = omega (arith, w.number, count_by-le-length (λ q. is_entered q.mark) (take i s), length-take i s)
 
 -- the turn of the next peg, as it is read at the default d
 module _ {a : Arithmetic} {s t : Sheet} {i v : ℕ} (w : Turned a s i v t) (within : i < length s) (d : Peg) where

@@ -1,16 +1,13 @@
 use Rattle.std.proofs.Common.{arith, rules, refl, sym, ◌∙◌, ◌≡◌, ◌≢◌}
 use Rattle.sheet.specs.declared.peg.Mark.TheVariants.{Entered}
 use Rattle.sheet.proofs.Lines.{work_refused, work_passes}
-use Rattle.sheet.proofs.Turns.{Turned, finished_turns, turned_few, turned_entered, turned_other}
+use Rattle.sheet.proofs.Turns.{Turned, finished_turns, turned_entered, turned_other}
 use Rattle.sheet.proofs.Promised.{both}
 use Rattle.sheet.proofs.calls.work.Goals as goal
 use Rattle.sheet.proofs.calls.work.Goals.{then-eq, else-eq}
 
 pub returns-then-end-sheet : goal.returns-then-end-sheet
 returns-then-end-sheet g c = both _ _ _ _ (g.met.B.ExpfBackend.lawful c.args.arith.now) (work_refused _ _ _ _ (omega arith), refl)
-
-pub overflow_add-done : goal.overflow_add-done
-overflow_add-done g c = omega (arith, turned_few c.loop-peg.invariant)
 
 pub loop-peg-preserved : goal.loop-peg-preserved
 loop-peg-preserved g c =
