@@ -3,6 +3,7 @@ ghost use Rattle.std.specs.Prelude.{◌≡◌, ◌<◌};
 ghost use Rattle.arithmetic.specs.Arithmetic.{Arithmetic};
 ghost use Rattle.sheet.specs.Lists.{call_of as called};
 ghost use Rattle.cards.specs.Format.{count_bytes};
+ghost use Rattle.cards.specs.Told.{counts_of, closed_of};
 ghost use Rattle.cards.specs.Runs.{Takes, RunsAddUp, call_of, none, counted, most_cards};
 
 use crate::card::Card;
@@ -54,7 +55,7 @@ impl OpenRun {
     pub const MOST_CARDS: u16 = 65535;
 
     pub fn open() -> OpenRun
-        ensures { result.counts ≡ none }
+        ensures { counts_of result ≡ none }
     {
         OpenRun {
             counts: Counts::default(),
@@ -68,7 +69,7 @@ impl OpenRun {
         sheet: &mut [Peg],
         arith: &B,
     ) -> Result<u32, Fault>
-        ensures { Takes (B.ExpfBackend.meaning arith.now) card.now self.old.counts sheet.old result sheet.new self.new.counts }
+        ensures { Takes (B.ExpfBackend.meaning arith.now) card.now (counts_of self.old) sheet.old result sheet.new (counts_of self.new) }
     {
         if self.counts.taken == OpenRun::MOST_CARDS {
             return Err(Fault::RunFull);
@@ -85,7 +86,7 @@ impl OpenRun {
 
     // Ends the run.
     pub fn close(self) -> ClosedRun
-        ensures { result.counts ≡ self.counts }
+        ensures { closed_of result ≡ counts_of self }
     {
         let OpenRun { counts } = self;
         ClosedRun { counts }
@@ -95,7 +96,7 @@ impl OpenRun {
 impl ClosedRun {
     // Cards taken, cards refused and pegs worked, the most significant byte first. By this name, since the rules say that a run tells them.
     pub fn told(self) -> [u8; 8]
-        ensures { result ≡ count_bytes self.counts }
+        ensures { result ≡ count_bytes (closed_of self) }
     {
         let [a, b] = self.counts.taken.to_be_bytes();
         let [c, d] = self.counts.refused.to_be_bytes();

@@ -1,5 +1,6 @@
 // A stream of bytes as cards: each six are one, and bytes left over at the end are one too.
 ghost use Rattle.cards.specs.Streams.{TakesAll, StreamsJoin};
+ghost use Rattle.cards.specs.Told.{counts_of};
 
 use crate::counts::OpenRun;
 use crate::reply::reply;
@@ -19,7 +20,7 @@ impl OpenRun {
         arith: &B,
         replies: &mut [[u8; 5]],
     ) -> Option<usize>
-        ensures { TakesAll (B.ExpfBackend.meaning arith.now) bytes.now self.old.counts sheet.old replies.old result sheet.new self.new.counts replies.new }
+        ensures { TakesAll (B.ExpfBackend.meaning arith.now) bytes.now (counts_of self.old) sheet.old replies.old result sheet.new (counts_of self.new) replies.new }
     {
         let cards = bytes.chunks(CARD_SIZE);
         let count = cards.len();
