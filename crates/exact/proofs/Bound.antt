@@ -1,5 +1,5 @@
 -- |x| ≤ d for rationals, as two orders; how bounds go through sums and products; whole numbers and 1 / (k + 1) among the rationals.
-use Rattle.std.proofs.Common.{◌≡◌, refl, ap, ◌∙◌, subst, Bool, true, false, not, [], ◌∷◌, ℕ, suc, ◌+◌, ◌-◌, ◌≤◌, zero-lt-suc, arith, T, pos}
+use Rattle.std.proofs.Common.{◌≡◌, refl, ap, ◌∙◌, subst, Bool, true, false, not, [], ◌∷◌, ℕ, suc, ◌+◌, ◌-◌, ◌≤◌, zero-lt-suc, arith, T, pos, negsuc}
 use std.Quotient.{cls}
 use Rattle.exact.proofs.Ring.{con, ◌⊕◌, ◌⊖◌, ◌⊗◌, ⊝, norm}
 use Rattle.exact.proofs.Integer.{zring, x₀, x₁, x₂, x₃}
@@ -150,6 +150,11 @@ le_plus a b t = le_by b t (qring (x₀ ⊕ x₁ ⊖ x₀) x₁ refl (a ∷ b ∷
 pub mul_one : (a : ℚ) → a *q ofℕ 1 ≡ a
 unfolding norm ofℕ
 mul_one a = qring (x₀ ⊗ con (pos 1)) x₀ refl (a ∷ [])
+
+-- a number plus 1 is not at most itself
+pub less_than_itself : (x : ℚ) → x +q ofℕ 1 ≤q x → ⊥
+unfolding norm nn ◌-q◌ ofℕ ofℤ
+less_than_itself x h = subst (λ (y : ℚ). T (nn y)) (qring (x₀ ⊖ (x₀ ⊕ con (pos 1))) (con (negsuc 0)) refl (x ∷ [])) h.le
 
 -- ---- the absolute value
 abbrev pub pick : Bool → ℚ → ℚ

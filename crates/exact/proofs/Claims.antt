@@ -1,19 +1,20 @@
 -- From sums to claims: what every sum from some place on says firmly holds of e ^ t, and of 2 ^ x and 10 ^ x; and one sum may decide.
-use Rattle.std.proofs.Common.{◌≡◌, refl, sym, ap, ap₂, ◌∙◌, subst, [], ◌∷◌, ℕ, ◌≤◌, pos}
+use Rattle.std.proofs.Common.{◌≡◌, refl, sym, ap, ap₂, ◌∙◌, subst, [], ◌∷◌, ℕ, ◌≤◌, T, pos}
 use std.Quotient.{cls}
 use Rattle.exact.specs.Fraction.{Fraction, whole, plus, times, absolute, difference, apart, ◌≼◌}
 use Rattle.exact.proofs.Ring.{con, ◌⊕◌, ◌⊖◌, ◌⊗◌, norm}
 use Rattle.exact.proofs.Integer.{x₀, x₁, x₂}
 use Rattle.exact.proofs.Rational.{ℚ, ◌+q◌, ◌*q◌, -q◌, ◌-q◌, qring}
-use Rattle.exact.proofs.Order.{◌≤q◌, le_by, q_trans, q_add}
-use Rattle.exact.proofs.Bound.{ofℕ, Bound, bound_more, bound_mul, bound_self, bound_turn, bound_via, bound_above, bound_below}
+use Rattle.exact.proofs.Order.{nn, nn_mul, ◌≤q◌, le_by, q_refl, q_trans, q_add}
+use Rattle.exact.proofs.Bound.{ofℕ, Bound, bound_more, bound_mul, bound_self, bound_turn, bound_via, bound_above, bound_below, mul_right}
 use Rattle.exact.proofs.Compare.{sum_cls, diff_cls, product_cls, integer_cls, whole_cls, below_in, below_out, bound_abs, abs_out, abs_in, abs_least}
+use Rattle.exact.proofs.Growth.{S_mono}
 use Rattle.exact.specs.Exponential.{Claim, within, at_least, at_most, series, rest, Far, Allowed}
 use Rattle.exact.specs.Logarithm.{Base, binary, decimal, lowest, InBracket}
 use Rattle.exact.specs.Exact.{OfExp, OfPower, raised, Function, exp, exp2, exp10, expm1, Exact}
 use Rattle.exact.proofs.Series.{S, R, from, reach, from_comm, later, tail}
 use Rattle.exact.proofs.Sums.{series_cls, rest_cls, far_out, far_in}
-use Rattle.exact.proofs.Logarithm.{low, lowest_cls, bracket_in, later_in, between}
+use Rattle.exact.proofs.Logarithm.{low, lowest_cls, bracket_in, later_in, low_nn, between}
 
 -- the claim about the number s itself, and give or take e
 abbrev pub Firm : Claim → ℚ → Type 0
@@ -136,3 +137,16 @@ holds exp c x n₀ h = carry c x (n₀ 0) (h 0)
 holds exp2 c x n₀ h = carry_power binary c x 80 n₀ h
 holds exp10 c x n₀ h = carry_power decimal c x 80 n₀ h
 holds expm1 c x n₀ h = carry (raised c) x (n₀ 0) (λ n k. raise_firm c (S (cls x) n) (h 0 n k))
+
+-- from 0 up, they grow with x
+power_mono : (b : Base) (x x' : ℚ) → T (nn x) → x ≤q x' → (j n : ℕ) → S (x *q low b (from 80 j)) n ≤q S (x' *q low b (from 80 j)) n
+power_mono b x x' t h j n =
+    let l = low b (from 80 j) in
+    (S_mono (x *q l) (x' *q l) (nn_mul x l t (low_nn b j)) (mul_right l (low_nn b j) h) n).1
+
+pub value_mono : (f : Function) (x x' : ℚ) → T (nn x) → x ≤q x' → (j n : ℕ) → value f x j n ≤q value f x' j n
+unfolding ◌-q◌
+value_mono exp x x' t h j n = (S_mono x x' t h n).1
+value_mono exp2 x x' t h j n = power_mono binary x x' t h j n
+value_mono exp10 x x' t h j n = power_mono decimal x x' t h j n
+value_mono expm1 x x' t h j n = q_add (S_mono x x' t h n).1 (q_refl (-q◌ (ofℕ 1)))

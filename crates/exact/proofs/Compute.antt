@@ -1,5 +1,5 @@
 -- The sum at p / q as one fraction, computed in one pass, and what one test at one n says of every sum from there on.
-use Rattle.std.proofs.Common.{◌≡◌, refl, sym, ap, ap₂, ◌∙◌, subst, Bool, [], ◌∷◌, ℕ, zero, suc, ◌+◌, ◌*◌, ◌≤◌, ◌<◌, zero-lt-suc, mul-pos, mul-le-mul_right, arith, T, leb, leb→le, le→leb, ℤ, pos, ◌+ℤ◌, ◌-ℤ◌, ◌*ℤ◌, neg_ℤ, nat_abs}
+use Rattle.std.proofs.Common.{◌≡◌, refl, sym, ap, ap₂, ◌∙◌, subst, Bool, [], ◌∷◌, ℕ, zero, suc, ◌+◌, ◌*◌, ◌≤◌, ◌<◌, zero-lt-suc, mul-pos, mul-le-mul_right, arith, T, leb, leb→le, le→leb, ℤ, pos, negsuc, ◌+ℤ◌, ◌-ℤ◌, ◌*ℤ◌, neg_ℤ, nat_abs}
 use Rattle.std.specs.Int.Signed.{le_z}
 use Rattle.std.proofs.Math.Nat.{le-suc}
 use Rattle.std.proofs.lemmas.Int.{ints, unsigned_abs-mul}
@@ -62,6 +62,11 @@ unfoldable pub test : ℕ → ℕ → ℕ → State → Bool
 test l y u s = leb (nat_abs (pos (y * s.den) -ℤ s.num *ℤ pos l) + nat_abs s.pow * l) (u * s.den)
 
 -- ---- the size of the last term
+nat_abs_neg : (z : ℤ) → nat_abs (neg_ℤ z) ≡ nat_abs z
+nat_abs_neg (pos zero) = refl
+nat_abs_neg (pos (suc n)) = refl
+nat_abs_neg (negsuc n) = refl
+
 run_den : (p r : ℤ) (q n : ℕ) → (run p q n).den ≡ (run r q n).den
 unfolding run
 run_den p r q zero = refl
