@@ -97,6 +97,10 @@ pub above_limit : {z v e L : ℚ} → Bound (z -q v) e → L +q e ≤q v → L �
 unfolding norm ◌-q◌
 above_limit {z} {v} {e} {L} b h = le_by ((z -q v -q (-q◌ e)) +q (v -q (L +q e))) (nn_add _ _ b.lo.le h.le) (qring (x₀ ⊖ x₃) ((x₀ ⊖ x₁ ⊖ ⊝ x₂) ⊕ (x₁ ⊖ (x₃ ⊕ x₂))) refl (z ∷ v ∷ e ∷ L ∷ []))
 
+pub below_limit : (v : ℚ) {z e L : ℚ} → Bound (z -q v) e → L ≤q z → L ≤q v +q e
+unfolding norm ◌-q◌
+below_limit v {z} {e} {L} b h = le_by ((e -q (z -q v)) +q (z -q L)) (nn_add _ _ b.hi.le h.le) (qring (x₁ ⊕ x₂ ⊖ x₃) ((x₂ ⊖ (x₀ ⊖ x₁)) ⊕ (x₀ ⊖ x₃)) refl (z ∷ v ∷ e ∷ L ∷ []))
+
 -- within k z of v, for a k from 0 to 1
 pub above_limit_relative : {z v L : ℚ} (k : ℚ) → T (nn k) → Bound (z -q v) (k *q z) → L +q k *q L ≤q v → L ≤q z
 unfolding norm ◌-q◌

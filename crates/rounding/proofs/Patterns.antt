@@ -1,14 +1,17 @@
 -- The number of an f32 by its pattern: a larger pattern, its sign aside, is a larger number.
-use Rattle.std.proofs.Common.{◌≡◌, ℕ, zero, suc, ◌+◌, ◌*◌, ◌/◌, ◌%◌, ◌^◌, ◌<◌, ◌≤◌, Bool, false, eqb, leb, sym, refl, ap, ◌∙◌, subst, ap₂, inl, inr, le_trans, mul-le-mul_right, mul-le-mul, pow-suc, ne_of_lt, arith, le→leb, eqb→eq, leb→le, pow_pos, pow_mono}
+use Rattle.std.proofs.Common.{◌≡◌, ℕ, zero, suc, ◌+◌, ◌*◌, ◌/◌, ◌%◌, ◌^◌, ◌<◌, ◌≤◌, Bool, false, T, eqb, leb, sym, refl, ap, ◌∙◌, subst, ap₂, inl, inr, le_trans, mul-le-mul_right, mul-le-mul, pow-suc, ne_of_lt, arith, le→leb, eqb→eq, leb→le, pow_pos, pow_mono}
 use Rattle.std.specs.Float.{Float, Format, binary32}
 use Rattle.std.specs.Float.Ieee.{prec, low, hid, ones, top, of_bits, of_fields}
 use Rattle.std.specs.Float.Ieee.Bits.{cond_no, is_true, is_false}
 use Rattle.std.specs.Float.Ieee.Exact.{HasValue, odd_sign}
+use Rattle.std.specs.Float.Ieee.Scale.{finite}
 use Rattle.std.proofs.Math.Dec.{not_T}
 use Rattle.std.proofs.lemmas.Bool.{cases_lt}
 use Rattle.exact.proofs.Rational.{ℚ, -q◌}
-use Rattle.rounding.proofs.Fractions.{frac, frac_le, frac_neg}
-use Rattle.rounding.proofs.Value.{val, value_is}
+use Rattle.exact.proofs.Bound.{Bound}
+use Rattle.rounding.proofs.Fractions.{frac, frac_le, signed_size, frac_neg}
+use Rattle.rounding.proofs.Value.{val, value_is, finite_is}
+use Rattle.rounding.proofs.Multiple.{Away}
 use Rattle.exact.proofs.Order.{◌≤q◌}
 
 -- ---- an exponent's field from 1 on, and 0
@@ -85,8 +88,19 @@ module _ (p : ℕ) (h : p % 2 ^ 31 < 255 * 2 ^ 23) where
   abbrev n : ℕ
   n = size_of (p % 2 ^ 31)
 
+  pub pattern_finite : T (finite (of_bits binary32 p))
+  pattern_finite = finite_is (of_bits binary32 p) (leb (2 ^ 31) p) _ _ (pattern_value p h)
+
   pub pattern_is : val (of_bits binary32 p) ≡ frac (leb (2 ^ 31) p) n (2 ^ 149) (pow_pos 149)
   pattern_is = value_is (of_bits binary32 p) (leb (2 ^ 31) p) _ _ (pow_pos 149) (pattern_value p h)
+
+  -- at least the pattern c, which is at least 2 ^ -k
+  pub pattern_away : (k c : ℕ) → c ≤ p % 2 ^ 31 → 2 ^ 149 ≤ size_of c * 2 ^ k → Away k (val (of_bits binary32 p))
+  pattern_away k c l g = record { s = leb (2 ^ 31) p; a = n; c = 2 ^ 149; ok = pow_pos 149; how = pattern_is; far = inr (le_trans g (mul-le-mul_right (2 ^ k) (size_mono c (p % 2 ^ 31) l))) }
+
+  -- at most the pattern c, which is at most u / v
+  pub pattern_bound : (c u v : ℕ) (V : 0 < v) → p % 2 ^ 31 ≤ c → size_of c * v ≤ u * 2 ^ 149 → Bound (val (of_bits binary32 p)) (frac false u v V)
+  pattern_bound c u v V l g = subst (λ (x : ℚ). Bound x (frac false u v V)) (sym pattern_is) (signed_size (leb (2 ^ 31) p) n (2 ^ 149) (pow_pos 149) _ (frac_le n (2 ^ 149) u v (pow_pos 149) V (le_trans (mul-le-mul_right v (size_mono (p % 2 ^ 31) c l)) g)))
 
   -- a positive pattern, and one with the sign set
   pub pattern_positive : p < 2 ^ 31 → val (of_bits binary32 p) ≡ sized p

@@ -1,6 +1,6 @@
 -- The number of a finite float as a rational, and what each operation rounds: its exact result, once.
 use Rattle.std.proofs.Common.{◌≡◌, ℕ, ◌+◌, ◌-◌, ◌*◌, ◌<◌, ◌≤◌, Bool, true, false, cond, not, ◌&&◌, T, ltb, sym, refl, ap, ◌∙◌, subst, ap₂, mul_assoc, mul_comm, mul-pos, mul_left_comm, arith, ltb→lt, nltb→le}
-use Rattle.std.specs.Float.{Float, nan, inf, fin, Format, float_mul_add}
+use Rattle.std.specs.Float.{Float, nan, inf, fin, Format, float_mul_add, round_to_format}
 use Rattle.std.specs.Float.Ieee.{up, down, unlike, round, sum, add, mul}
 use Rattle.std.specs.Float.Ieee.Fits.{down_pos}
 use Rattle.std.specs.Float.Ieee.Exact.{HasValue}
@@ -104,3 +104,9 @@ fused_rounds f (fin s m e) (fin t n d) (fin u i g) h k l =
     (frac_same u (i * up g * (down e * down d)) (down e * down d * down g) (i * up g) (down g) P H (simp (mul_assoc, mul_comm, mul_left_comm))))
     (sum_rounds f (unlike s t) (a * down g) u (i * up g * (down e * down d)) (down e * down d * down g) P)
 fused_rounds _ _ _ _ h _ _ = absurd h
+
+pub narrowing_rounds : (f : Format) (x : Float) → T (finite x) → Rounds f (round_to_format f x) (val x)
+unfolding round_to_format val
+narrowing_rounds f nan h = absurd h
+narrowing_rounds f (inf s) h = absurd h
+narrowing_rounds f (fin s m e) h = record { s = s; a = m * up e; c = down e; ok = down_pos e; how = refl; what = refl }

@@ -2,15 +2,18 @@
 use Rattle.std.proofs.Common.{◌≡◌, ℕ, zero, suc, ◌+◌, ◌*◌, ◌/◌, ◌%◌, ◌^◌, ◌<◌, ◌≤◌, Bool, true, false, T, ℤ, pos, negsuc, sym, subst, inl, inr, mul-le-mul_right, mod-lt, zero-lt-suc, mul-le-mul_left, div-add-mod', arith, pow_pos}
 use Rattle.std.specs.Float.{Float, nan, inf, fin, Format, ratio_round_half_up, round_with, float_round}
 use Rattle.std.specs.Float.Ieee.{prec, up, down, round, fits}
-use Rattle.std.specs.Float.Ieee.Fits.{round-fits, nan-fits, inf-fits}
+use Rattle.std.specs.Float.Ieee.Fits.{down_pos, round-fits, nan-fits, inf-fits}
 use Rattle.std.specs.Float.Ieee.Exact.{HasValue, round_exact}
 use Rattle.std.specs.Float.Ieee.Scale.{finite}
 use Rattle.std.specs.Float.Ieee.Back.{round_whole}
 use Rattle.std.proofs.lemmas.Bool.{cases_lt}
-use Rattle.exact.proofs.Rational.{◌-q◌, -q◌, ofℤ}
-use Rattle.exact.proofs.Bound.{Bound}
+use Rattle.exact.proofs.Rational.{ℚ, ◌-q◌, -q◌, ofℤ}
+use Rattle.exact.proofs.Bound.{ofℕ, Bound}
 use Rattle.exact.proofs.Compare.{dy}
-use Rattle.rounding.proofs.Value.{val}
+use Rattle.rounding.specs.Values.{signed}
+use Rattle.rounding.specs.Ranges.{Small}
+use Rattle.rounding.proofs.Fractions.{frac, frac_le_out, frac_near_signed, size_under}
+use Rattle.rounding.proofs.Value.{val, value_is, finite_is}
 use Rattle.rounding.proofs.HalfUnit.{Half}
 use Rattle.rounding.proofs.Held.{fit_digits, digits}
 
@@ -69,3 +72,40 @@ pub record NearWhole (f : Format) (p k : Float) : Type 0 where
   pub is_fit : T (fits f k)
   pub value_of : val k ≡ ofℤ num
   pub off : Bound (val p -q val k) (dy 1 1)
+
+pub away_near : (f : Format) (p : Float) → T (fits f p) → T (finite p) → NearWhole f p (float_round f p)
+unfolding val ofℤ
+away_near f nan w t = absurd t
+away_near f (inf s) w t = absurd t
+away_near f (fin s m e) w t =
+    let n = m * up e in
+    let d = down e in
+    let K = ratio_round_half_up n d in
+    let h = half_up n d (down_pos e) in
+    let v = value_is (float_round f (fin s m e)) s K 1 (zero-lt-suc 0) (away_value f s m e w) in
+    record {
+      num = signed s K;
+      is_finite = finite_is (float_round f (fin s m e)) s K 1 (away_value f s m e w);
+      is_fit = away_fits f (fin s m e);
+      value_of = v;
+      off = subst (λ (u : ℚ). Bound (frac s n d (down_pos e) -q u) (dy 1 1)) (sym v) (frac_near_signed s n d K 1 1 2 (down_pos e) (zero-lt-suc 0) (pow_pos 1) (up_side n d K h.1) (down_side n d K h.0));
+    }
+  where
+    up_side : (n d K : ℕ) → n * 2 ≤ K * d * 2 + d → n * (1 * 2) ≤ (K * 2 + 1 * 1) * d
+    up_side n d K h = omega arith
+
+    down_side : (n d K : ℕ) → K * d * 2 ≤ n * 2 + d → K * (d * 2) ≤ (n * 2 + 1 * d) * 1
+    down_side n d K h = omega arith
+
+-- a rounding to a whole number that is lawful below 2 ^ k
+abbrev pub RoundLaw : Format → ℕ → (Float → Float) → Type 0
+RoundLaw f k round = (p : Float) → Small f k p → round p ≡ float_round f p
+
+small_of : (f : Format) (k : ℕ) (x : Float) → T (fits f x) → T (finite x) → Bound (val x) (ofℕ (2 ^ k)) → Small f k x
+unfolding val ofℕ ofℤ
+small_of f k nan w t b = absurd t
+small_of f k (inf s) w t b = absurd t
+small_of f k (fin s m e) w t b = let u : m * up e * 1 ≤ 2 ^ k * down e = frac_le_out (m * up e) (down e) (2 ^ k) 1 (down_pos e) (zero-lt-suc 0) (size_under s (m * up e) (down e) (down_pos e) _ b) in (w, (omega arith))
+
+pub lawful_near : (f : Format) (k : ℕ) (round : Float → Float) → RoundLaw f k round → (p : Float) → T (fits f p) → T (finite p) → Bound (val p) (ofℕ (2 ^ k)) → NearWhole f p (round p)
+lawful_near f k round law p w t b = subst (λ (u : Float). NearWhole f p u) (sym (law p (small_of f k p w t b))) (away_near f p w t)
