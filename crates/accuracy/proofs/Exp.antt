@@ -1,5 +1,5 @@
 -- exp whole: its bands in order, each with what is promised of its figure.
-use Rattle.std.proofs.Common.{◌≡◌, ℕ, ◌<◌, ◌≤◌, Bool, true, false, not, T, ltb, leb, [], ◌∷◌, ℤ, pos, sym, refl, ap, ◌∙◌, subst, inl, inr, zero-le, arith, eqb→eq, ltb-true, ltb-false, leb-true, leb-false}
+use Rattle.std.proofs.Common.{◌≡◌, ℕ, ◌<◌, ◌≤◌, Bool, true, false, cond, not, ◌&&◌, T, ltb, leb, [], ◌∷◌, ℤ, pos, sym, refl, ap, ◌∙◌, subst, inl, inr, zero-le, arith, eqb→eq, ltb-true, ltb-false, leb-true, leb-false}
 use Rattle.std.specs.Float.{Float, inf, fin, binary32}
 use Rattle.std.specs.Float.Ieee.{fits, is_nan, of_bits, to_bits}
 use Rattle.std.specs.Float.Ieee.Bits.{is_false}
@@ -31,6 +31,17 @@ pub data Band (x : Float) : Type 0 where
   zero : 0xc2cf_f1b5 ≤ pattern x → ((a : Arithmetic) → exp_value a x ≡ single 0x0000_0000) → Band x
   infinite : pattern x < 0x8000_0000 → 0x42b2_0000 ≤ pattern x → ((a : Arithmetic) → exp_value a x ≡ single 0x7f80_0000) → Band x
   tables : ExpReaches x → ((a : Arithmetic) → exp_value a x ≡ exp_tables_value a x) → Band x
+
+-- four tests in order
+abbrev choose : Arithmetic → Float → Bool → Bool → Bool → Bool → Float
+choose a x p q r s = cond p (single 0x7fc0_0000) (cond q (single 0x3f80_0000) (cond r (single 0x0000_0000) (cond s (single 0x7f80_0000) (exp_tables_value a x))))
+
+taken : (a : Arithmetic) (x : Float) (p q r s : Bool) → is_nan x ≡ p → leb (magnitude x) 0x3280_0000 ≡ q → leb 0xc2cf_f1b5 (pattern x) ≡ r → ltb (pattern x) 0x8000_0000 && leb 0x42b2_0000 (pattern x) ≡ s → exp_value a x ≡ choose a x p q r s
+taken a x p q r s e f g h =
+    ap (λ (b : Bool). choose a x b (leb (magnitude x) 0x3280_0000) (leb 0xc2cf_f1b5 (pattern x)) (ltb (pattern x) 0x8000_0000 && leb 0x42b2_0000 (pattern x))) e
+    ∙ ap (λ (b : Bool). choose a x p b (leb 0xc2cf_f1b5 (pattern x)) (ltb (pattern x) 0x8000_0000 && leb 0x42b2_0000 (pattern x))) f
+    ∙ ap (λ (b : Bool). choose a x p q b (ltb (pattern x) 0x8000_0000 && leb 0x42b2_0000 (pattern x))) g
+    ∙ ap (λ (b : Bool). choose a x p q r b) h
 
 band : (x : Float) → T (not (is_nan x)) → Band x
 band x t = go (leb (magnitude x) 0x3280_0000) (leb 0xc2cf_f1b5 (pattern x)) (ltb (pattern x) 0x8000_0000) (leb 0x42b2_0000 (pattern x)) refl refl refl refl

@@ -1,5 +1,5 @@
 -- expm1 whole: its bands in order, each with what is promised of its figure.
-use Rattle.std.proofs.Common.{◌≡◌, ℕ, ◌<◌, ◌≤◌, Bool, true, false, cond, not, T, ltb, leb, [], ◌∷◌, ℤ, sym, refl, ap, ◌∙◌, subst, inl, inr, lt_of_lt_of_le, le_of_lt, arith, lit≤, eqb→eq, ltb-true, ltb-false, leb-true, leb-false}
+use Rattle.std.proofs.Common.{◌≡◌, ℕ, ◌<◌, ◌≤◌, Bool, true, false, cond, not, ◌&&◌, T, ltb, leb, [], ◌∷◌, ℤ, sym, refl, ap, ◌∙◌, subst, inl, inr, lt_of_lt_of_le, le_of_lt, arith, lit≤, eqb→eq, ltb-true, ltb-false, leb-true, leb-false}
 use Rattle.std.specs.Float.{Float, fin, binary32}
 use Rattle.std.specs.Float.Ieee.{fits, is_nan, of_bits, to_bits}
 use Rattle.std.specs.Float.Ieee.Bits.{is_false}
@@ -36,6 +36,18 @@ pub data Band (x : Float) : Type 0 where
   infinite : pattern x < 0x8000_0000 → 0x42b2_0000 ≤ pattern x → ((a : Arithmetic) → expm1_value a x ≡ single 0x7f80_0000) → Band x
   small : Expm1Reaches x → magnitude x < 0x3d80_0000 → ((a : Arithmetic) → expm1_value a x ≡ expm1_small_value a x) → Band x
   tables : Expm1Reaches x → 0x3d80_0000 ≤ magnitude x → ((a : Arithmetic) → expm1_value a x ≡ expm1_tables_value a x) → Band x
+
+-- five tests in order
+abbrev choose : Arithmetic → Float → Bool → Bool → Bool → Bool → Bool → Float
+choose a x p q r s u = cond p (single 0x7fc0_0000) (cond q x (cond r (single 0xbf80_0000) (cond s (single 0x7f80_0000) (cond u (expm1_small_value a x) (expm1_tables_value a x)))))
+
+taken : (a : Arithmetic) (x : Float) (p q r s u : Bool) → is_nan x ≡ p → ltb (magnitude x) 0x3300_0000 ≡ q → leb 0xc18a_a123 (pattern x) ≡ r → ltb (pattern x) 0x8000_0000 && leb 0x42b2_0000 (pattern x) ≡ s → ltb (magnitude x) 0x3d80_0000 ≡ u → expm1_value a x ≡ choose a x p q r s u
+taken a x p q r s u e f g h i =
+    ap (λ (b : Bool). choose a x b (ltb (magnitude x) 0x3300_0000) (leb 0xc18a_a123 (pattern x)) (ltb (pattern x) 0x8000_0000 && leb 0x42b2_0000 (pattern x)) (ltb (magnitude x) 0x3d80_0000)) e
+    ∙ ap (λ (b : Bool). choose a x p b (leb 0xc18a_a123 (pattern x)) (ltb (pattern x) 0x8000_0000 && leb 0x42b2_0000 (pattern x)) (ltb (magnitude x) 0x3d80_0000)) f
+    ∙ ap (λ (b : Bool). choose a x p q b (ltb (pattern x) 0x8000_0000 && leb 0x42b2_0000 (pattern x)) (ltb (magnitude x) 0x3d80_0000)) g
+    ∙ ap (λ (b : Bool). choose a x p q r b (ltb (magnitude x) 0x3d80_0000)) h
+    ∙ ap (λ (b : Bool). choose a x p q r s b) i
 
 band : (x : Float) → T (not (is_nan x)) → Band x
 band x t = go (ltb (magnitude x) 0x3300_0000) (leb 0xc18a_a123 (pattern x)) (ltb (pattern x) 0x8000_0000) (leb 0x42b2_0000 (pattern x)) refl refl refl refl

@@ -1,5 +1,5 @@
 -- An f32 by its pattern: its value, and the order of values by the order of patterns.
-use Rattle.std.proofs.Common.{◌≡◌, ℕ, ◌+◌, ◌-◌, ◌*◌, ◌/◌, ◌%◌, ◌^◌, ◌<◌, ◌≤◌, Bool, true, false, cond, not, T, eqb, leb, ℤ, sym, refl, ap, ◌∙◌, subst, inl, inr, eq-zero-or-pos, arith, pow_pos, bit_and}
+use Rattle.std.proofs.Common.{◌≡◌, ℕ, ◌+◌, ◌-◌, ◌*◌, ◌/◌, ◌%◌, ◌^◌, ◌<◌, ◌≤◌, Bool, true, false, cond, not, T, eqb, leb, ◌⊎◌, ℤ, sym, refl, ap, ◌∙◌, subst, inl, inr, eq-zero-or-pos, arith, pow_pos, bit_and}
 use Rattle.std.specs.Float.{Float, nan, inf, fin, binary32}
 use Rattle.std.specs.Float.Ieee.{fits, is_nan, of_bits, of_fields, up, size}
 use Rattle.std.specs.Float.Ieee.Bits.{of_bits-to_bits, to_bits-lt}
@@ -62,6 +62,10 @@ pub numberless : (x : Float) → T (finite x) → T (not (is_nan x))
 unfolding is_nan
 numberless (fin s m e) t = tt
 numberless _ t = absurd t
+
+pub decide : (b : Bool) → T b ⊎ T (not b)
+decide true = inl tt
+decide false = inr tt
 
 nn_sized : (p : ℕ) → T (nn (sized p))
 nn_sized p = nn_frac (size_of p) (2 ^ 149) (pow_pos 149)

@@ -247,6 +247,9 @@ module _ (b : Base) (E : ℚ) (small-E : E ≤q dy 1 7) (k₀ k₁ k₂ k₃ k�
       (subst (λ (u : ℚ). u ≤q dy 1 49 *q (val mh *q poly k₀ k₁ k₂ k₃ k₄ (val lo))) (qring (x₀ ⊗ (x₂ ⊗ x₁)) (x₀ ⊗ x₁ ⊗ x₂) refl (dy 1 49 ∷ dy 31 5 ∷ val mh ∷ [])) (q_mul (dy 1 49) (nn_dy 1 49) (q_mul (val mh) mh_nn pv_low))))
 
   -- ---- the three logarithms
+  abbrev pub logs : ℚ
+  logs = ofℤ h *q root binary +q r +q val lo *q root b
+
   size_h : Bound (ofℤ h *q root binary) H
   size_h = bound_mul (whole_size h hs) size_nums.11
 
