@@ -71,6 +71,10 @@ place_out f n s p k h e i = grind (arith, places)
 size_put : (f n : ℕ) (s p : Sheet) → f + n ≤ length s → length p ≡ n → length (put_mid f n s p) ≡ length s
 size_put f n s p h e = simp (length-append, length-take, length-drop) (omega arith)
 
+-- of no peg, any sheet is as it was
+pub finished_none : (s : Sheet) (f n : ℕ) (a : Arithmetic) → n ≡ 0 → Finished s f n a 0 s
+finished_none s f n a e = record { size = refl; inside = λ k p _. absurd (omega (arith, p.0, p.1)); others = λ k _. refl; number = ap (λ i. entries (take i (drop f s))) (sym e) }
+
 -- every peg of the part had its turn
 pub finished : (s : Sheet) (f n : ℕ) (a : Arithmetic) → f + n ≤ length s → Finished s f n a (entries (take n (drop f s))) (put_mid f n s (map (turn a) (take n (drop f s))))
 finished s f n a h = record { size = size_put f n s _ h many; inside = λ k i e. here k i ∙ turn_entered a (peg s k) e; others = others; number = refl }
