@@ -41,6 +41,16 @@ shift_is f k h = let l : 1 + k ≤ 64 = room f k h in shl_exact {a = 1} 1 k 64 (
     room binary32 k h = omega arith
     room binary64 k h = omega arith
 
+-- the same in a word of the format's own width, and the count with it
+shift_own : (f : Format) (k : ℕ) → k ≤ prec f → (1 * 2 ^ k) % (2 * top f) ≡ 2 ^ k
+shift_own binary32 k h = shl_exact {a = 1} 1 k 32 (omega arith) (omega arith) ∙ omega arith
+shift_own binary64 k h = shl_exact {a = 1} 1 k 64 (omega arith) (omega arith) ∙ omega arith
+
+pub count_own : (f : Format) (b s : ℕ) → s ≤ suc (prec f) → (b % top f % hid f + hid f + (1 * 2 ^ (s - 1)) % (2 * top f)) / 2 ^ s ≡ count f b s
+count_own f b s h =
+    let l : s - 1 ≤ prec f = omega arith in
+    ap (λ (w : ℕ). (b % top f % hid f + hid f + w) / 2 ^ s) (shift_own f (s - 1) l ∙ sym (shift_is f (s - 1) l))
+
 count_is : (f : Format) (b k : ℕ) → k ≤ prec f → count f b (suc k) ≡ (hid f + b % hid f + 2 ^ k) / (2 * 2 ^ k)
 count_is f b k h =
     let d : 2 ^ suc k ≡ 2 * 2 ^ k = omega arith in
