@@ -12,7 +12,7 @@ use request::{Blocks, Request, USAGE, read_request};
 use std::{env, io};
 
 fn print_blocks(rt: &HostRuntime, pair: Pair, every: Every, blocks: Blocks) -> io::Result<()> {
-    for number in blocks.numbers {
+    for number in blocks.first..blocks.first + blocks.count {
         let digest = block_digest(pair, every, number);
         println!(rt; "{pair} block {number} 0x{digest:016x}")?;
     }

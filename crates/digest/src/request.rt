@@ -1,11 +1,10 @@
 // What the words of the command line ask for.
-ghost use Rattle.std.specs.Prelude.{◌≡◌, ◌≤◌};
+ghost use Rattle.std.specs.Prelude.{◌≡◌, ◌+◌, ◌≤◌};
 ghost use Rattle.digest.specs.Mistake.{mistake_of};
 
 use crate::fold::{BLOCKS, Every};
 use query::{Pair, UnknownName};
 use std::fmt;
-use std::ops::Range;
 
 pub const USAGE: &str = "\
 digest CURVE ARITHMETIC                the digest of the answers to all 2^32 patterns
@@ -18,11 +17,11 @@ A digest starts as 0xcbf29ce484222325; each answer w, a pattern of 32 bits, make
 modulo 2^64. The digest of several blocks is the same over their digests, the upper 32 bits of each and then the lower.";
 
 // Blocks in a row.
-#[derive(Drop)]
+#[derive(Clone, Copy)]
 pub struct Blocks {
-    pub numbers: Range<u32>,
-    ghost forward: { numbers.start ≤ numbers.end },
-    ghost inside: { numbers.end ≤ 256 },
+    pub first: u32,
+    pub count: u32,
+    ghost inside: { first + count ≤ 256 },
 }
 
 pub enum Request {
@@ -71,9 +70,7 @@ fn read_blocks(first: &str, count: &str) -> Result<Blocks, Mistake> {
         return Err(Mistake::Blocks);
     };
     match first.checked_add(count) {
-        Some(end) if end <= BLOCKS => Ok(Blocks {
-            numbers: first..end,
-        }),
+        Some(end) if end <= BLOCKS => Ok(Blocks { first, count }),
         _ => Err(Mistake::Blocks),
     }
 }
