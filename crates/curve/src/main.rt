@@ -36,11 +36,12 @@ fn answer_all(rt: &HostRuntime) -> io::Result<u64> {
     let mut out = BufWriter::new(rt.alloc(), rt.stdout())?;
     let lines = BufReader::new(rt.alloc(), rt.stdin())?.split(rt.alloc(), b'\n');
     let mut wrong = 0u64;
-    for (number, text) in (1u64..).zip(lines) {
+    // from 0, so that the reader's own end, an error after 2^64 - 2 lines, comes before that of the numbers
+    for (before, text) in (0u64..).zip(lines) {
         match read_bytes(&text?) {
             Ok(q) => write_answer(&mut out, q)?,
             Err(m) => {
-                writeln!(out, "error: line {number}: {m}")?;
+                writeln!(out, "error: line {}: {m}", before + 1)?;
                 wrong = wrong.saturating_add(1);
             }
         }

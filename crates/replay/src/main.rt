@@ -55,15 +55,16 @@ fn replay_all(rt: &HostRuntime) -> io::Result<u64> {
     let lines = BufReader::new(rt.alloc(), rt.stdin())?.split(rt.alloc(), b'\n');
     let mut all = tallies();
     let mut wrong = 0u64;
-    for (number, text) in (1u64..).zip(lines) {
+    // from 0, so that the reader's own end, an error after 2^64 - 2 lines, comes before that of the numbers
+    for (before, text) in (0u64..).zip(lines) {
         match read_bytes(&text?) {
             Ok(line) => {
                 let verdict = judge_line(line);
-                add_to(&mut all, line.pair, verdict);
-                write_verdict(&mut out, number, line, verdict)?;
+                add_to(all.as_flattened_mut(), line.pair, verdict);
+                write_verdict(&mut out, before + 1, line, verdict)?;
             }
             Err(m) => {
-                writeln!(out, "error: line {number}: {m}")?;
+                writeln!(out, "error: line {}: {m}", before + 1)?;
                 wrong = wrong.saturating_add(1);
             }
         }

@@ -71,9 +71,9 @@ pub fn tallies() -> [[Tally; 2]; 4] {
     })
 }
 
-// Adds the verdict to the tally of the pair.
-pub fn add_to(all: &mut [[Tally; 2]], pair: Pair, verdict: Verdict) {
-    if let Some(tally) = all.iter_mut().flatten().find(|tally| tally.pair == pair) {
+// Adds the verdict to every tally of the pair.
+pub fn add_to(all: &mut [Tally], pair: Pair, verdict: Verdict) {
+    for tally in all.iter_mut().filter(|tally| tally.pair == pair) {
         tally.add(verdict);
     }
 }
