@@ -1,6 +1,8 @@
 // A run, open and closed, and its counts.
 ghost use Rattle.std.specs.Prelude.{◌≤◌};
 
+use std::fmt;
+
 // Cards taken, cards refused and pegs worked.
 #[derive(Clone, Copy, Debug, Default, PartialEq, Eq)]
 pub(crate) struct Counts {
@@ -16,7 +18,18 @@ pub struct OpenRun {
 }
 
 // A run that tells its counts.
-#[derive(Clone, Copy, Debug, PartialEq, Eq)]
+#[derive(Clone, Copy, PartialEq, Eq)]
 pub struct ClosedRun {
     pub(crate) counts: Counts,
+}
+
+// By hand: a reader of the print sees the three counts, and not the struct that holds them.
+impl fmt::Debug for ClosedRun {
+    fn fmt<W: fmt::Write>(&self, f: &mut fmt::Formatter<W>) -> fmt::Result {
+        f.debug_struct("ClosedRun")
+            .field("taken", &self.counts.taken)
+            .field("refused", &self.counts.refused)
+            .field("worked", &self.counts.worked)
+            .finish()
+    }
 }
