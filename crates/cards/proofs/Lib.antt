@@ -1,3 +1,4 @@
+pub mod Growing
 pub mod Packing
 pub mod Counting
 pub mod Streaming

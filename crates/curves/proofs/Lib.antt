@@ -5,6 +5,7 @@ pub mod Natural
 pub mod Binary
 pub mod Checked
 pub mod Rules
+pub mod Shift
 pub mod Fields
 pub mod WholePower
 pub mod Law
