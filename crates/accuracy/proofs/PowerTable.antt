@@ -201,10 +201,10 @@ module _ (b : Base) (E : ℚ) (small-E : E ≤q dy 1 7) (k₀ k₁ k₂ k₃ k�
   nn_p : T (nn (cls (power h)))
   nn_p = le_nn (q_trans (nn_le (nn_dy 1 159)) (power_range h hs).0)
 
-  mh_low : dy 1 160 ≤q val mh
+  pub mh_low : dy 1 160 ≤q val mh
   mh_low = subst (λ (u : ℚ). dy 1 160 ≤q u) (sym vm) (q_trans size_nums.6 (mul_mono (nn_ofℕ 1) (nn_dy 1 159) rule.above (power_range h hs).0))
 
-  mh_high : val mh ≤q ofℕ (2 ^ 160)
+  pub mh_high : val mh ≤q ofℕ (2 ^ 160)
   mh_high = subst (λ (u : ℚ). u ≤q ofℕ (2 ^ 160)) (sym vm) (q_trans (mul_mono nn_y nn_p rule.below (power_range h hs).1) size_nums.7)
 
   mh_nn : T (nn (val mh))
@@ -307,7 +307,7 @@ module _ (b : Base) (E : ℚ) (small-E : E ≤q dy 1 7) (k₀ k₁ k₂ k₃ k�
     z_over = le_by (val z -q W -q (-q◌ (dy 1 49 *q W))) z_part.lo.le (qring (x₀ ⊖ (con (pos 1) ⊖ x₂) ⊗ x₁) (x₀ ⊖ x₁ ⊖ ⊝ (x₂ ⊗ x₁)) refl (val z ∷ W ∷ dy 1 49 ∷ []))
 
     -- z is within 2 ^ -43 of itself of every sum at t
-    table_near : (t : ℚ) → Bound (t -q (ofℤ h *q root binary +q r +q val lo *q root b)) (dy 1 58) → Bound (val z -q S t n) (dy 1 43 *q val z)
+    pub table_near : (t : ℚ) → Bound (t -q (ofℤ h *q root binary +q r +q val lo *q root b)) (dy 1 58) → Bound (val z -q S t n) (dy 1 43 *q val z)
     unfolding norm ◌-q◌
     table_near t bt =
         let v = S t n in
@@ -317,7 +317,7 @@ module _ (b : Base) (E : ℚ) (small-E : E ≤q dy 1 7) (k₀ k₁ k₂ k₃ k�
         (q_trans (mul_right W W_nn err_nums.1)
         (subst (λ (u : ℚ). u ≤q dy 1 43 *q val z) (qring (x₀ ⊗ (x₁ ⊗ x₂)) (x₀ ⊗ x₁ ⊗ x₂) refl (dy 1 43 ∷ (ofℤ (pos 1) -q dy 1 49) ∷ W ∷ [])) (q_mul (dy 1 43) (nn_dy 1 43) z_over))))
 
-  table_low : dy 1 162 ≤q val z
+  pub table_low : dy 1 162 ≤q val z
   table_low = q_trans err_nums.4 (q_trans (q_mul (dy 1 1) (nn_dy 1 1) W_low) (q_trans (mul_right W W_nn err_nums.3) (z_over 1000 (lit≤ tt))))
 
   -- for the x of which lo is the rest

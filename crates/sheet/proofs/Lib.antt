@@ -2,6 +2,7 @@ pub mod Names
 pub mod Lines
 pub mod Total
 pub mod Turns
+pub mod Parts
 pub mod Effects
 pub mod Pairs
 pub mod Stories

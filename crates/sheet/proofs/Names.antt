@@ -53,7 +53,7 @@ code_low Exp10 c e = omega arith
 code_low Expm1 c e = omega arith
 
 -- the two tests of a finite float are one
-finite_is : (x : Float) → is_finite x ≡ finite x
+pub finite_is : (x : Float) → is_finite x ≡ finite x
 unfolding is_finite
 finite_is nan = refl
 finite_is (inf s) = refl
