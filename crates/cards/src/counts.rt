@@ -33,3 +33,27 @@ impl fmt::Debug for ClosedRun {
             .finish()
     }
 }
+
+#[cfg(test)]
+mod tests {
+    use super::*;
+    use std::alloc::AllocError;
+
+    // As a reader sees them: each count by its name.
+    #[test]
+    fn prints_its_counts(rt: HostRuntime) -> Result<(), AllocError> {
+        let run = ClosedRun {
+            counts: Counts {
+                taken: 3,
+                refused: 1,
+                worked: 128,
+            },
+        };
+        let text = format!(in rt.alloc(); "{run:?}")?;
+        assert_eq!(rt;
+            text.as_str(),
+            "ClosedRun { taken: 3, refused: 1, worked: 128 }"
+        );
+        Ok(())
+    }
+}
