@@ -12,6 +12,7 @@ use request::{Blocks, Request, USAGE, read_request};
 use std::{env, io};
 
 fn print_blocks(rt: &HostRuntime, pair: Pair, every: Every, blocks: Blocks) -> io::Result<()> {
+    // a range made here, since `Blocks` can hold none (it is `Copy`)
     for number in blocks.first..blocks.first + blocks.count {
         let digest = block_digest(pair, every, number);
         println!(rt; "{pair} block {number} 0x{digest:016x}")?;

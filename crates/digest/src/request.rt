@@ -16,7 +16,7 @@ CURVE is exp, exp2, exp10 or expm1, ARITHMETIC two-step or fused. Blocks are num
 A digest starts as 0xcbf29ce484222325; each answer w, a pattern of 32 bits, makes h into (h xor w) * 0x100000001b3
 modulo 2^64. The digest of several blocks is the same over their digests, the upper 32 bits of each and then the lower.";
 
-// Blocks in a row.
+// Blocks in a row: a first and a count, since a struct with a `Range` in it could not be `Copy`.
 #[derive(Clone, Copy)]
 pub struct Blocks {
     pub first: u32,
