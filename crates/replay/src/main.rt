@@ -57,14 +57,15 @@ fn replay_all(rt: &HostRuntime) -> io::Result<u64> {
     let mut wrong = 0u64;
     // from 0, so that the reader's own end, an error after 2^64 - 2 lines, comes before that of the numbers
     for (before, text) in (0u64..).zip(lines) {
+        let number = before + 1;
         match read_bytes(&text?) {
             Ok(line) => {
                 let verdict = judge_line(line);
                 add_to(all.as_flattened_mut(), line.pair, verdict);
-                write_verdict(&mut out, before + 1, line, verdict)?;
+                write_verdict(&mut out, number, line, verdict)?;
             }
             Err(m) => {
-                writeln!(out, "error: line {}: {m}", before + 1)?;
+                writeln!(out, "error: line {number}: {m}")?;
                 wrong = wrong.saturating_add(1);
             }
         }
